@@ -1,0 +1,26 @@
+-- A line that is filled with spaces, and a text that is put into its spaces. Assumes nothing.
+use mathlib.Core.Path.{_≡_, refl, sym, ap, _∙_}
+use mathlib.Core.List.{List, _++_, append-assoc}
+use Prim.Native.Nat.{ℕ, _+_, _-_, _≤_}
+use native.Mathlib.Nat.{sub-zero}
+use native.Mathlib.Omega.{arith}
+use lib.ListN.{length, take, drop, replicate, length-append}
+use borrow.Rule.Slice.PartMut.{putMid, postOf}
+use Rattle.std.proofs.shelf.Lists.{take-at, drop-at, drop-replicate}
+use Rattle.survey.specs.Lines.{padded}
+
+pub filled : (text written : List ℕ) → written ≡ text → written ++ postOf 0 (length text - 0) (replicate 16 0x20) ≡ padded text
+filled text written same =
+    ap (λ (l : List ℕ). l ++ drop (length text - 0) (replicate 16 0x20)) same ∙
+    ap (λ (k : ℕ). text ++ drop k (replicate 16 0x20)) (sub-zero (length text)) ∙
+    ap (λ (l : List ℕ). text ++ l) (drop-replicate (length text) 16 0x20)
+
+pub put-after : (text more line written : List ℕ) (len k : ℕ) → length text ≡ len → k ≡ length more → line ≡ padded text → written ≡ more → putMid len k line written ≡ padded (text ++ more)
+put-after text more line written len k long many is same =
+    let spaces = replicate (16 - length text) 0x20 in
+    let front = ap (take len) is ∙ take-at text spaces len long in
+    let back = ap (drop len) is ∙ drop-at text spaces len long in
+    let left : 16 - length text - k ≡ 16 - length (text ++ more) = omega (arith, length-append text more) in
+    (λ i. front i ++ (same i ++ drop k (back i))) ∙
+    ap (λ (l : List ℕ). text ++ (more ++ l)) (drop-replicate k (16 - length text) 0x20 ∙ ap (λ (n : ℕ). replicate n 0x20) left) ∙
+    sym (append-assoc text more (replicate (16 - length (text ++ more)) 0x20))
