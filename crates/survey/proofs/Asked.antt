@@ -88,3 +88,8 @@ none-each (suc n) k zero qs e h =
 none-each (suc n) k (suc i) qs e h =
     let same : k + suc i ≡ suc k + i = omega arith in
     ap (λ (j : ℕ). firstNo (qs j)) same ∙ none-each n (suc k) i qs (none-parts (qs k) (eachFrom (suc k) n qs) e .1) (omega arith)
+
+-- a call with one question is refused by it
+pub refused-here : {T : Type 0} (b : Bool) (q r : Refusal) (v : T) → Err r ≡ unless (cond b None (Some q)) v → b ≡ false
+refused-here true q r v e = absurd (let z : _≡_ {A = ℕ} 0 1 = cc in omega arith)
+refused-here false q r v e = refl

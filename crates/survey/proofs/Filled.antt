@@ -17,10 +17,10 @@ filled text written same =
 
 pub put-after : (text more line written : List ℕ) (len k : ℕ) → length text ≡ len → k ≡ length more → line ≡ padded text → written ≡ more → putMid len k line written ≡ padded (text ++ more)
 put-after text more line written len k long many is same =
-    let spaces = replicate (16 - length text) 0x20 in
-    let front = ap (take len) is ∙ take-at text spaces len long in
-    let back = ap (drop len) is ∙ drop-at text spaces len long in
     let left : 16 - length text - k ≡ 16 - length (text ++ more) = omega (arith, length-append text more) in
+    let spaces = replicate (16 - length text) 0x20 in
+    let front : take len line ≡ text = ap (take len) is ∙ take-at text spaces len long in
+    let back : drop len line ≡ spaces = ap (drop len) is ∙ drop-at text spaces len long in
     (λ i. front i ++ (same i ++ drop k (back i))) ∙
     ap (λ (l : List ℕ). text ++ (more ++ l)) (drop-replicate k (16 - length text) 0x20 ∙ ap (λ (n : ℕ). replicate n 0x20) left) ∙
     sym (append-assoc text more (replicate (16 - length (text ++ more)) 0x20))

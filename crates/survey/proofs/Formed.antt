@@ -12,13 +12,10 @@ use Rattle.std.proofs.shelf.Tests.{and-parts, leb-true, ltb-true, eqb-true}
 use Rattle.std.specs.declared.option.Option.{Option}
 use Rattle.std.specs.declared.option.Option.the-variants.{Some, None}
 use Rattle.std.specs.Options.{isSome}
-use Rattle.std.specs.Text.{Ascii, Utf8}
-use Rattle.std.proofs.shelf.Ascii.{ascii-nil, ascii-cons}
-use Rattle.std.proofs.shelf.Text.{utf8-from-ascii}
 use Rattle.survey.specs.declared.refusal.Refusal.{Refusal}
 use Rattle.survey.specs.File.{places, passages, tablesEnd, labelOffset, labelLength, labelStart, labelEnd, labelAt, passageAt}
 use Rattle.survey.specs.Questions.{firstNo, each}
-use Rattle.survey.specs.Reading.{headerQuestions, passageQuestions, labelQuestions, endQuestions, surveyQuestions, printable, allPrintable, WellFormed}
+use Rattle.survey.specs.Reading.{headerQuestions, passageQuestions, labelQuestions, endQuestions, surveyQuestions, allPrintable, WellFormed}
 use Rattle.survey.proofs.Asked.{none-parts, none-yes, none-each}
 
 module _ (bs : List ℕ) (accepted : firstNo (surveyQuestions bs) ≡ None) where
@@ -75,13 +72,3 @@ is-none (Some r) e = cc
 -- the same, from what a checked survey carries
 pub well-formed : (bs : List ℕ) → isSome (firstNo (surveyQuestions bs)) ≡ false → WellFormed bs
 well-formed bs accepted = formed-none bs (is-none _ accepted)
-
-printable-ascii : (bs : List ℕ) → allPrintable bs ≡ true → Ascii bs
-printable-ascii [] e = ascii-nil
-printable-ascii (b ∷ bs) e =
-    let both = and-parts (printable b) (allPrintable bs) e in
-    ascii-cons b bs (omega (arith, leb-true b 0x7E (and-parts (leb 0x20 b) (leb b 0x7E) (both .0) .1))) (printable-ascii bs (both .1))
-
--- a printable text is text
-pub printable-utf8 : (bs : List ℕ) → allPrintable bs ≡ true → Utf8 bs
-printable-utf8 bs e = utf8-from-ascii bs (printable-ascii bs e)

@@ -2,13 +2,9 @@
 use mathlib.Core.List.{List, _++_}
 use Prim.Native.Nat.{ℕ, _-_, _/_}
 use lib.Chars.{codes}
-use lib.ListN.{length, take, replicate}
+use lib.ListN.{length, replicate}
 use Rattle.std.specs.Written.{decimal}
-use Rattle.survey.specs.declared.decimal.Decimal.{Decimal}
 use Rattle.survey.specs.File.{labelAt}
-
-abbrev pub digitsIn : Decimal → List ℕ
-digitsIn d = take (d .len) (d .digits)
 
 -- a text filled with spaces to 16 bytes
 abbrev pub padded : List ℕ → List ℕ

@@ -1,7 +1,6 @@
 // The survey file of a hotel: checking it, a view of a checked one, and the repeater lines.
 mod check;
 pub mod decimal;
-mod digits;
 pub mod fault;
 pub mod layout;
 mod lines;

@@ -27,7 +27,7 @@ impl Survey<'_> {
         ensures second { λ r. ⌜ now (second .exit) ≡ cond (ltb place (places (file (now (self .entry))))) (lineTwo seconds) (now (second .entry)) ⌝ }
     {
         let label = self.label(place)?;
-        *first = line_of(label.as_bytes());
+        *first = line_of(label);
         *second = minutes_line(seconds);
         Ok(())
     }

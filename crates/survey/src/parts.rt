@@ -66,14 +66,13 @@ impl<'a> Survey<'a> {
     }
 
     // The part of the file that is the label of the place.
-    pub fn label(&self, place: u16) -> Result<&'a str, ReadFault>
+    pub fn label(&self, place: u16) -> Result<&'a [u8], ReadFault>
         ensures { λ r. ⌜ toldOf now readRefusal r ≡ decided (placeQuestions (file (now (self .entry))) place) (labelAt (file (now (self .entry))) place) ⌝ }
     {
         if place >= self.layout.places {
             return Err(ReadFault::NoPlace);
         }
-        // Its bytes were found printable.
-        Ok(unsafe { std::str::from_utf8_unchecked(self.label_bytes(place)) })
+        Ok(self.label_bytes(place))
     }
 
     // The lowest place with this label.

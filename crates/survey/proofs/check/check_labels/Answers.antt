@@ -20,6 +20,7 @@ pub loop-place-again : need.loop-place-again
 loop-place-again c =
     let bs = c .args .bytes .now in
     let many = ap (λ (l : Layout). l .places) (c .pre .same) in
-    let here = passed _ (labelEnd bs (c .loop-place .place)) _ (c .in-Continue-end .ensures tt) in
     let next : suc (c .loop-place .place) ≡ c .loop-place .place + 1 = omega arith in
-    (here .1 ∙ ap (labelStart bs) next, each-passed (places bs) (c .loop-place .place) (labelQuestions bs) (omega arith) (c .loop-place .inv .1) (here .0))
+    let below : c .loop-place .place < places bs = omega arith in
+    let here = passed _ (labelEnd bs (c .loop-place .place)) _ (c .in-Continue-end .ensures tt) in
+    (here .1 ∙ ap (labelStart bs) next, each-passed (places bs) (c .loop-place .place) (labelQuestions bs) below (c .loop-place .inv .1) (here .0))

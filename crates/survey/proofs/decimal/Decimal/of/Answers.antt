@@ -8,9 +8,8 @@ use Rattle.survey.proofs.Written.{few}
 use Rattle.survey.proofs.decimal.Decimal.of.Needs as need
 
 pub ghost-result : need.ghost-result
-ghost-result c = (omega (arith, few (c .args .n) (c .fits .n .fits), c .write-digits-len .ensures .len), tt)
-
-pub returns : need.returns
-returns c =
-    ap (λ (l : List ℕ). take (c .write-digits-len .result) l) (c .write-digits-len .ensures .after) ∙
-    take-at _ _ (c .write-digits-len .result) (sym (c .write-digits-len .ensures .len))
+ghost-result c =
+    let told = c .write-digits-len .ensures in (
+      omega (arith, few (c .args .value) (c .fits .value .fits), told .len),
+      (ap (take (c .write-digits-len .result)) (told .after) ∙ take-at _ _ (c .write-digits-len .result) (sym (told .len)), tt),
+    )

@@ -3,7 +3,7 @@ use native.Mathlib.Omega.{arith}
 use lib.ListN.{length}
 use Rattle.std.proofs.shelf.Decimals.{decimal-digit}
 use Rattle.survey.proofs.Written.{fewer, one-more, first-written, last-written}
-use Rattle.survey.proofs.digits.+write_digits.Needs as need
+use Rattle.survey.proofs.decimal.+write_digits.Needs as need
 
 pub returns-then-n-lt10 : need.returns-then-n-lt10
 returns-then-n-lt10 t c = record {

@@ -1,0 +1,5 @@
+pub mod Text
+pub mod Input
+pub mod Description
+pub mod Job
+pub mod Fault
