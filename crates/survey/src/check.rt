@@ -4,10 +4,12 @@ ghost use mathlib.Core.Path.{_≡_};
 ghost use mathlib.Core.List.{_++_};
 ghost use Prim.Native.Nat.{_+_, _*_, _<_, _≤_};
 ghost use lib.ListN.{length};
+ghost use Rattle.std.specs.declared.option.Option.the-variants.{None};
+ghost use Rattle.std.specs.Vec.{made};
 ghost use Rattle.survey.specs.Faults.{readRefusal};
 ghost use Rattle.survey.specs.File.{layoutOf, labelEnd, labelStart, passageStart, passages, places, tablesEnd};
-ghost use Rattle.survey.specs.Questions.{decided, each, told};
-ghost use Rattle.survey.specs.Reading.{checked, headerQuestions, labelQuestions, passageQuestions, allPrintable, printable};
+ghost use Rattle.survey.specs.Questions.{decided, each, firstNo, told};
+ghost use Rattle.survey.specs.Reading.{checked, headerQuestions, labelQuestions, passageQuestions, allPrintable, printable, surveyQuestions, WellFormed};
 use crate::fault::ReadFault;
 use crate::layout::Layout;
 use crate::layout::pair_at;
@@ -119,15 +121,27 @@ fn check_labels(bytes: &[u8], layout: Layout) -> Result<usize, ReadFault>
     Ok(end)
 }
 
+// What follows the header.
+fn check_rest(bytes: &[u8], layout: Layout) -> Result<(), ReadFault>
+    requires same { ⌜ layout ≡ layoutOf (now bytes) ⌝ }
+    requires header { ⌜ firstNo (headerQuestions (now bytes)) ≡ None ⌝ }
+    ensures cases { λ r. ⌜ told readRefusal r ≡ decided (surveyQuestions (now (bytes .entry))) tt ⌝ }
+    ensures formed { λ r. ⌜ made r (λ _. WellFormed (now (bytes .entry))) ⌝ }
+{
+    check_passages(bytes, layout)?;
+    if check_labels(bytes, layout)? != bytes.len() {
+        return Err(ReadFault::Rest);
+    }
+    Ok(())
+}
+
 impl Layout {
     pub fn check(bytes: &[u8]) -> Result<Layout, ReadFault>
-        ensures { λ r. ⌜ told readRefusal r ≡ checked (now (bytes .entry)) ⌝ }
+        ensures cases { λ r. ⌜ told readRefusal r ≡ checked (now (bytes .entry)) ⌝ }
+        ensures formed { λ r. ⌜ made r (λ _. WellFormed (now (bytes .entry))) ⌝ }
     {
         let layout = check_header(bytes)?;
-        check_passages(bytes, layout)?;
-        if check_labels(bytes, layout)? != bytes.len() {
-            return Err(ReadFault::Rest);
-        }
+        check_rest(bytes, layout)?;
         Ok(layout)
     }
 }

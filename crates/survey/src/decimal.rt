@@ -1,8 +1,7 @@
 // Numbers as decimal digits, with no leading zero.
 ghost use mathlib.Core.Path.{_≡_};
-ghost use mathlib.Core.List.{_++_};
 ghost use Prim.Native.Nat.{_≤_};
-ghost use lib.ListN.{drop, length, take};
+ghost use lib.ListN.{take};
 ghost use Rattle.std.specs.Written.{decimal};
 
 // The first `len` bytes are the digits of the value, the most significant first.
@@ -33,8 +32,8 @@ impl Decimal {
 
 // Writes the digits of `n` to the front of `out`, and answers how many they are.
 fn write_digits(out: &mut [u8; 10], n: u32) -> usize
-    ensures len { λ r. ⌜ r ≡ length (decimal n) ⌝ }
-    ensures after { λ r. ⌜ now (out .exit) ≡ decimal n ++ drop (length (decimal n)) (now (out .entry)) ⌝ }
+    ensures bound { λ r. ⌜ r ≤ 10 ⌝ }
+    ensures digits { λ r. ⌜ take r (now (out .exit)) ≡ decimal n ⌝ }
 {
     if n < 10 {
         out[0] = b'0' + n as u8;

@@ -1,9 +1,12 @@
 // The two lines that a repeater shows for a place: its label, and the minutes to it.
 ghost use mathlib.Core.Bool.{cond};
+ghost use mathlib.Core.List.{_++_};
 ghost use mathlib.Core.Path.{_≡_};
 ghost use Prim.Native.Nat.{_≤_};
+ghost use lib.Chars.{codes};
 ghost use lib.Dec.{ltb};
 ghost use lib.ListN.{length};
+ghost use Rattle.std.specs.Written.{decimal};
 ghost use Rattle.survey.specs.Faults.{readRefusal};
 ghost use Rattle.survey.specs.File.{places};
 ghost use Rattle.survey.specs.Lines.{lineOne, lineTwo, padded};
@@ -28,7 +31,7 @@ impl Survey<'_> {
     {
         let label = self.label(place)?;
         *first = line_of(label);
-        *second = minutes_line(seconds);
+        *second = minutes_line(seconds / 60);
         Ok(())
     }
 }
@@ -43,11 +46,11 @@ fn line_of(text: &[u8]) -> [u8; 16]
     line
 }
 
-fn minutes_line(seconds: u32) -> [u8; 16]
-    ensures { λ r. ⌜ r ≡ lineTwo seconds ⌝ }
+fn minutes_line(minutes: u32) -> [u8; 16]
+    ensures { λ r. ⌜ r ≡ padded (decimal minutes ++ codes " min") ⌝ }
 {
-    let minutes = Decimal::of(seconds / 60);
-    let digits = minutes.as_bytes();
+    let number = Decimal::of(minutes);
+    let digits = number.as_bytes();
     let len = digits.len();
     let mut line = line_of(digits);
     line[len..len + 4].copy_from_slice(b" min");

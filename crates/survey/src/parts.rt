@@ -9,7 +9,7 @@ ghost use Rattle.std.specs.Options.{Cases as BySome};
 ghost use Rattle.survey.specs.Faults.{readRefusal};
 ghost use Rattle.survey.specs.File.{byte, labelAt, passageAt, passages, places};
 ghost use Rattle.survey.specs.Questions.{decided, toldOf};
-ghost use Rattle.survey.specs.Reading.{checked, placeQuestions, WellFormed};
+ghost use Rattle.survey.specs.Reading.{checked, placeQuestions};
 ghost use Rattle.survey.specs.View.{file, Lowest};
 use crate::fault::ReadFault;
 use crate::layout::Layout;
@@ -23,8 +23,7 @@ impl<'a> Survey<'a> {
     // The view of bytes that `Layout::check` accepted with this layout.
     pub fn new(bytes: &'a [u8], layout: Layout) -> Survey<'a>
         requires sound { ⌜ checked (now bytes) ≡ Ok layout ⌝ }
-        ensures file { λ r. ⌜ file r ≡ now (bytes .entry) ⌝ }
-        ensures formed { λ r. ⌜ WellFormed (file r) ⌝ }
+        ensures { λ r. ⌜ file r ≡ now (bytes .entry) ⌝ }
     {
         Survey { bytes, layout }
     }

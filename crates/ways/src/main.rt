@@ -3,6 +3,8 @@ mod describe;
 mod fault;
 mod job;
 mod line;
+#[cfg(test)]
+mod tests;
 mod text;
 
 use job::describe;

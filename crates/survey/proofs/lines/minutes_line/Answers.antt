@@ -13,4 +13,4 @@ pub returns : need.returns
 returns c =
     let digits = c .as-bytes-digits .result .now in
     put-after digits (codes " min") (c .line-of-line .result) (c .copy-from-slice .last .self) (length digits) _ refl (omega arith) (c .line-of-line .ensures) (c .copy-from-slice .ensures .after) ∙
-    ap (λ (l : List ℕ). padded (l ++ codes " min")) (c .as-bytes-digits .ensures ∙ ap decimal (c .of-minutes .ensures))
+    ap (λ (l : List ℕ). padded (l ++ codes " min")) (c .as-bytes-digits .ensures ∙ ap decimal (c .of-number .ensures))

@@ -15,17 +15,17 @@ returns-in-Break-layout c =
     let input = c .args .input .now in
     let long : 4 ≤ length input = search needs in
     exit-fails input (c .args .text) (Reader (c .in-Break-layout .field-0 .0)) _ (c .from-residual .ensures .1)
-    (record { by = job-refused input long _ (c .in-Break-layout .ensures tt); memory = λ e. absurd (let z : _≡_ {A = ℕ} 0 1 = cc in omega arith) })
+    (record { by = job-refused input long _ (c .in-Break-layout .ensures tt .cases); memory = λ e. absurd (let z : _≡_ {A = ℕ} 0 1 = cc in omega arith) })
 
 pub returns-in-Break-add-description : need.returns-in-Break-add-description
 returns-in-Break-add-description c =
     let input = c .args .input .now in
     let long : 4 ≤ length input = search needs in
-    let bytes = c .new-survey .ensures .file ∙ rest-is input long in
+    let bytes = c .new-survey .ensures ∙ rest-is input long in
     let same : _ ≡ description input = λ i. descriptionOf (bytes i) (c .from-le-bytes-start .ensures i) (c .from-le-bytes-goal .ensures i) in
     exit-fails input (c .args .text) Memory _ (c .from-residual-in-Break-add-description .ensures .1)
     (record {
-      by = job-accepted input long _ (c .in-Continue-layout .ensures tt);
+      by = job-accepted input long _ (c .in-Continue-layout .ensures tt .cases);
       memory = λ _. subst (λ (l : List ℕ). Lacks (c .args .text) l) same (c .in-Break-add-description .ensures tt);
     })
 
@@ -33,9 +33,9 @@ pub returns : need.returns
 returns c =
     let input = c .args .input .now in
     let long : 4 ≤ length input = search needs in
-    let bytes = c .new-survey .ensures .file ∙ rest-is input long in
+    let bytes = c .new-survey .ensures ∙ rest-is input long in
     let same : _ ≡ description input = λ i. descriptionOf (bytes i) (c .from-le-bytes-start .ensures i) (c .from-le-bytes-goal .ensures i) in
     record {
-      accepted = job-accepted input long _ (c .in-Continue-layout .ensures tt);
+      accepted = job-accepted input long _ (c .in-Continue-layout .ensures tt .cases);
       grown = subst (λ (l : List ℕ). Grown (c .args .text) (c .add-description .last .text) l) same (c .in-Continue-add-description .ensures tt);
     }
