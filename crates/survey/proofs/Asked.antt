@@ -1,5 +1,5 @@
 -- How the questions of a call are taken one part after another. Assumes nothing.
-use mathlib.Core.Path.{_≡_, refl, sym, ap, subst, _∙_}
+use mathlib.Core.Path.{_≡_, refl, sym, ap, _∙_}
 use mathlib.Core.Bool.{Bool, true, false, cond}
 use mathlib.Core.List.{List, [], _∷_, _++_}
 use Prim.Native.Nat.{ℕ, zero, suc, _+_, _-_, _<_, _≤_}
@@ -10,7 +10,7 @@ use Rattle.std.specs.declared.result.Result.{Result}
 use Rattle.std.specs.declared.result.Result.the-variants.{Ok, Err}
 use Rattle.std.specs.Results.{ErrBy}
 use Rattle.survey.specs.declared.refusal.Refusal.{Refusal}
-use Rattle.survey.specs.Questions.{Question, refusalBy, firstNo, unless, decided, eachFrom, each, told}
+use Rattle.survey.specs.Questions.{Question, refusalBy, firstNo, unless, eachFrom, each, told}
 
 -- a part without a "no" leaves the rest to decide
 pub first-after : (xs ys : List Question) → firstNo xs ≡ None → firstNo (xs ++ ys) ≡ firstNo ys

@@ -43,10 +43,9 @@ eachFrom k (suc n) qs = qs k ++ eachFrom (suc k) n qs
 abbrev pub each : ℕ → (ℕ → List Question) → List Question
 each n qs = eachFrom 0 n qs
 
-abbrev pub told : {T F : Type 0} → (F → Refusal) → Result T F → Result T Refusal
-told f (Ok v) = Ok v
-told f (Err e) = Err (f e)
-
 abbrev pub toldOf : {T U F : Type 0} → (T → U) → (F → Refusal) → Result T F → Result U Refusal
 toldOf g f (Ok v) = Ok (g v)
 toldOf g f (Err e) = Err (f e)
+
+abbrev pub told : {T F : Type 0} → (F → Refusal) → Result T F → Result T Refusal
+told f r = toldOf (λ v. v) f r

@@ -1,7 +1,6 @@
 // The questions that a file is asked before it counts as a survey.
 ghost use mathlib.Core.Bool.{true};
 ghost use mathlib.Core.Path.{_≡_};
-ghost use mathlib.Core.List.{_++_};
 ghost use Prim.Native.Nat.{_+_, _*_, _<_, _≤_};
 ghost use lib.ListN.{length};
 ghost use Rattle.std.specs.declared.option.Option.the-variants.{None};
@@ -89,10 +88,10 @@ fn check_label(bytes: &[u8], start: usize, place: u16) -> Result<usize, ReadFaul
     let len = usize::from(two_at(bytes, pair + 2));
     let end = offset + len;
     if offset != start || len < 1 || len > LONGEST_LABEL || end > bytes.len() {
-        return Err(ReadFault::Part { place });
+        return Err(ReadFault::Label { place });
     }
     if !all_printable(&bytes[offset..end]) {
-        return Err(ReadFault::Bytes { place });
+        return Err(ReadFault::Characters { place });
     }
     Ok(end)
 }
@@ -130,7 +129,7 @@ fn check_rest(bytes: &[u8], layout: Layout) -> Result<(), ReadFault>
 {
     check_passages(bytes, layout)?;
     if check_labels(bytes, layout)? != bytes.len() {
-        return Err(ReadFault::Rest);
+        return Err(ReadFault::Trailing);
     }
     Ok(())
 }

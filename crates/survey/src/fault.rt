@@ -16,11 +16,11 @@ pub enum ReadFault {
     // A passage begins or ends at no place.
     Ends { passage: u16 },
     // A label does not follow the one before it, has a wrong length or passes the end of the file.
-    Part { place: u16 },
+    Label { place: u16 },
     // A label holds a byte that is no printable character.
-    Bytes { place: u16 },
+    Characters { place: u16 },
     // Bytes stand behind the last label.
-    Rest,
+    Trailing,
     // No place has this number.
     NoPlace,
 }
@@ -38,15 +38,15 @@ impl ReadFault {
                 number: 5,
                 spot: u32::from(passage),
             },
-            ReadFault::Part { place } => Refusal {
+            ReadFault::Label { place } => Refusal {
                 number: 6,
                 spot: u32::from(place),
             },
-            ReadFault::Bytes { place } => Refusal {
+            ReadFault::Characters { place } => Refusal {
                 number: 7,
                 spot: u32::from(place),
             },
-            ReadFault::Rest => Refusal { number: 8, spot: 0 },
+            ReadFault::Trailing => Refusal { number: 8, spot: 0 },
             ReadFault::NoPlace => Refusal {
                 number: 24,
                 spot: 0,

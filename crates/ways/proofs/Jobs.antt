@@ -1,9 +1,8 @@
 -- What the questions of a job come to. Assumes nothing.
-use mathlib.Core.Path.{_≡_, refl, sym, ap, _∙_}
-use mathlib.Core.Bool.{Bool, true, cond}
+use mathlib.Core.Path.{_≡_, sym, ap, _∙_}
+use mathlib.Core.Bool.{Bool, cond}
 use mathlib.Core.List.{List}
 use Prim.Native.Nat.{ℕ, _-_, _≤_}
-use lib.Dec.{leb}
 use lib.ListN.{length, take, drop}
 use Rattle.std.proofs.shelf.Lists.{take-rest}
 use Rattle.std.proofs.shelf.Tests.{le-leb}
@@ -20,7 +19,8 @@ use Rattle.survey.specs.Questions.{firstNo}
 use Rattle.survey.specs.Reading.{surveyQuestions, checked}
 use Rattle.survey.proofs.Asked.{passed, stopped}
 use Rattle.ways.specs.declared.fault.JobFault.{JobFault}
-use Rattle.ways.specs.Input.{jobQuestions, surveyOf}
+use Rattle.ways.specs.Description.{descriptionOf, description}
+use Rattle.ways.specs.Input.{jobQuestions, startOf, goalOf, surveyOf}
 use Rattle.ways.specs.Job.{Answers, Fails}
 
 module _ (input : List ℕ) (long : 4 ≤ length input) where
@@ -28,8 +28,11 @@ module _ (input : List ℕ) (long : 4 ≤ length input) where
   abbrev rest : List ℕ
   rest = take (length input - 4) (drop 4 input)
 
-  pub rest-is : rest ≡ surveyOf input
+  rest-is : rest ≡ surveyOf input
   rest-is = take-rest input 4
+
+  pub same-description : (bs : List ℕ) (start goal : ℕ) → bs ≡ rest → start ≡ startOf input → goal ≡ goalOf input → descriptionOf bs start goal ≡ description input
+  same-description bs start goal bytes from to = (λ i. descriptionOf (bytes i) (from i) (to i)) ∙ ap (λ (l : List ℕ). descriptionOf l (startOf input) (goalOf input)) rest-is
 
   reader : (o : Option Refusal) → firstNo (surveyQuestions rest) ≡ o → firstNo (jobQuestions input) ≡ o
   reader o e =

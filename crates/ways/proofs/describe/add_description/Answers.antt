@@ -1,5 +1,4 @@
 use lib.Chars.{codes}
-use mathlib.Core.List.{List, _++_}
 use Rattle.survey.specs.View.{file}
 use Rattle.ways.specs.Description.{countLines, placeLines, placeLine, repeaterLines}
 use Rattle.ways.proofs.Growth.{lacks-then, lacks-more, adds-then, exit-lacks}

@@ -2,7 +2,6 @@ use mathlib.Core.Path.{sym, ap, subst, _∙_}
 use mathlib.Core.List.{List, _++_}
 use Prim.Native.Nat.{ℕ, _+_}
 use lib.ListN.{drop, take}
-use native.Mathlib.Omega.{arith}
 use Rattle.std.proofs.shelf.Lists.{take-all}
 use Rattle.ways.specs.Text.{Grown, Lacks, writtenAll}
 use Rattle.ways.proofs.Growth.{grown-then, lacks-then, lacks-more, written-at, written-split, exit-lacks}
