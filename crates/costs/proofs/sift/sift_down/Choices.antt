@@ -1,0 +1,11 @@
+use Prim.Native.Nat.{_-_}
+use Rattle.std.specs.Of.Vec.{vec-items, vec-len}
+use Rattle.costs.specs.Heap.{Sinks}
+use Rattle.costs.specs.Makes.{Stirred}
+use Rattle.costs.proofs.sift.sift_down.Given as given
+
+abbrev pub Inv-loop-at : given.InvT-loop-at
+Inv-loop-at l = Sinks (vec-items (l .entries)) (l .at) × Stirred (l .entry .entries) (l .entries)
+
+abbrev pub μ-loop-at : given.MeasureT-loop-at
+μ-loop-at l = vec-len (l .entries) - l .at

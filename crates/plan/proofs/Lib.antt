@@ -1,0 +1,12 @@
+pub mod Measures
+pub mod Search
+pub mod Kept
+pub mod Promises
+pub mod Instance
+pub mod Bests
+pub mod Entries
+pub mod Tied
+pub mod Bridge
+pub mod Chosen
+pub mod Runs
+pub mod Frontiers

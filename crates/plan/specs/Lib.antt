@@ -1,0 +1,4 @@
+pub mod Ways
+pub mod Rules
+pub mod Openings
+pub mod Promise
