@@ -4,9 +4,11 @@ use mathlib.Core.List.{List, []}
 use mathlib.Core.Logic.{_⊎_, inl, inr}
 use Prim.Native.Nat.{ℕ, _<_}
 use native.Mathlib.Omega.{arith}
+use lib.ListN.{getD}
 use Rattle.std.proofs.shelf.Tests.{cases-lt}
 use Rattle.plan.specs.Ways.{Pair, passage, totals, Leads, NoGreater, OnFrontier, FirstOnes, Among, After}
-use Rattle.plan.specs.Rules.{Task, State, choicePairs, after}
+use Rattle.plan.specs.Rules.{Task, State, recordAt, pairOf, choicePairs, after}
+use Rattle.plan.specs.Legs.{legsOf, WayWith}
 use Rattle.plan.specs.Promise.{SearchTheorem}
 use Rattle.plan.specs.Openings.{Fair}
 use Rattle.plan.proofs.Measures.{Way, size, sum}
@@ -15,6 +17,9 @@ use Rattle.plan.proofs.Promises.{arrives, Unbeaten, unbeaten, first-ones, comp
 use Rattle.plan.proofs.Instance.{problemOf, graphOf}
 use Rattle.plan.proofs.Bridge.{wayOf, listOf, leadsOf, sum-list, sum-way}
 use Rattle.plan.proofs.Chosen.{pairAt, shownOf, shown-choice, choice-shown, rising-shown}
+use Rattle.plan.proofs.Climbs.{climbs}
+use Rattle.plan.proofs.Counted.{counted-after}
+use Rattle.plan.proofs.Parents.{bred-after}
 use Rattle.plan.proofs.Runs.{Goes, goes-after}
 
 module _ (task : Task) (fair : Fair task) where
@@ -103,4 +108,11 @@ pub search-theorem : SearchTheorem
 search-theorem task fair n = record {
   shown = shows-first-ones task fair (after task n) (goes-after task fair n);
   complete = shows-all task fair (after task n) (goes-after task fair n);
+  legs = λ i inside.
+      let bred = bred-after task fair n in
+      let choice = bred .at-goal i inside in
+      subst (λ (t : ℕ). WayWith (task .building) (task .start) t (pairOf (recordAt (after task n) (getD (after task n .choices) i 0))) (legsOf (after task n) (getD (after task n .choices) i 0)))
+      (choice .there) (climbs task (after task n .records) (bred .born) (getD (after task n .choices) i 0) (getD (after task n .choices) i 0) (omega arith) (choice .stored));
+  counts = counted-after task fair n .counts;
+  room = counted-after task fair n .room;
 }

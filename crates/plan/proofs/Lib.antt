@@ -9,4 +9,7 @@ pub mod Tied
 pub mod Bridge
 pub mod Chosen
 pub mod Runs
+pub mod Climbs
+pub mod Parents
+pub mod Counted
 pub mod Frontiers

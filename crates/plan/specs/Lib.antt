@@ -1,4 +1,5 @@
 pub mod Ways
 pub mod Rules
 pub mod Openings
+pub mod Legs
 pub mod Promise

@@ -2,8 +2,13 @@
 --   Task                 a building, start and goal, two lists of forecasts, and the number of slots
 --   State                records, the best second total of each place, the waiting entries, choices, three counts
 --   begun task           the state after an opening
---   testFails task bests r     whether the record r is useless: its place, or the goal, has a best that is no greater
+--   useless task bs r    with the bests bs, the place of r has one that is at most its second total, or the goal one that is at
+--                        most its second estimate
+--   childrenFrom ..      what a record opens up to
 --   stepped task s       what a step answers, and the state after it
+--   choicePairs s        the totals of the choices shown, in order
+--   accepted s           how many steps were accepted
+--   after task n         the state after n steps, refused ones among them
 use mathlib.Core.Bool.{Bool, false, cond, not, _&&_, _||_}
 use mathlib.Core.List.{List, [], _∷_, _++_}
 use Prim.Native.Nat.{ℕ, suc, zero, _+_, _-_}
@@ -154,7 +159,9 @@ pairsIn rs (n ∷ ns) = pairOf (getD rs n noRecord) ∷ pairsIn rs ns
 abbrev pub choicePairs : State → List Pair
 choicePairs s = pairsIn (s .records) (s .choices)
 
--- the state after so many steps
+abbrev pub accepted : State → ℕ
+accepted s = s .opened + (s .shown + s .dropped)
+
 abbrev pub after : Task → ℕ → State
 after task zero = begun task
 after task (suc n) = stepped task (after task n) .next

@@ -1,4 +1,9 @@
 -- The questions of the reader, in their order. Assumes nothing.
+--   allPrintable bs       every byte is from 0x20 to 0x7E
+--   surveyQuestions bs    the questions 1 to 8: of the header, of each passage, of each label, of the end
+--   checked bs            what the check of bs answers
+--   WellFormed bs         what an accepted file is, in words
+--   placeQuestions bs p   question 24, of each call that names a place
 use mathlib.Core.Bool.{Bool, true, _&&_}
 use mathlib.Core.List.{List, [], _∷_, _++_}
 use mathlib.Core.Path.{_≡_}
@@ -41,11 +46,9 @@ abbrev pub surveyQuestions : List ℕ → List Question
 surveyQuestions bs =
     headerQuestions bs ++ (each (passages bs) (passageQuestions bs) ++ (each (places bs) (labelQuestions bs) ++ endQuestions bs))
 
--- what the check of bs answers
 abbrev pub checked : List ℕ → Result Layout Refusal
 checked bs = decided (surveyQuestions bs) (layoutOf bs)
 
--- what an accepted file is, in words
 pub record WellFormed (bs : List ℕ) : Type 0 where
   pub some : 1 ≤ places bs
   pub fewPlaces : places bs ≤ 256
@@ -60,6 +63,5 @@ pub record WellFormed (bs : List ℕ) : Type 0 where
   pub readable : (p : ℕ) → p < places bs → allPrintable (labelAt bs p) ≡ true
   pub whole : labelStart bs (places bs) ≡ length bs
 
--- the question of each call that names a place
 abbrev pub placeQuestions : List ℕ → ℕ → List Question
 placeQuestions bs p = ask 24 0 (ltb p (places bs)) ∷ []
