@@ -4,3 +4,4 @@ pub mod Bags
 pub mod Moves
 pub mod Leasts
 pub mod Heaps
+pub mod Laws

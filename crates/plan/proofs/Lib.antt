@@ -13,3 +13,4 @@ pub mod Climbs
 pub mod Parents
 pub mod Counted
 pub mod Frontiers
+pub mod Example

@@ -3,3 +3,4 @@ pub mod Rules
 pub mod Openings
 pub mod Legs
 pub mod Promise
+pub mod Worked
