@@ -1,4 +1,6 @@
 // Cost kinds, and the open lists from which a search takes its next entry.
+#![tactic(auto)]
+
 pub mod arrival_calls;
 pub mod arrival_list;
 pub mod both;

@@ -1,4 +1,6 @@
 // The survey file of a hotel: checking it, a view of a checked one, and the repeater lines.
+#![tactic(auto)]
+
 mod check;
 pub mod decimal;
 pub mod fault;

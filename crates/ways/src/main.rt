@@ -1,4 +1,6 @@
 // The program: describes the hotel that stands on standard input.
+#![tactic(auto)]
+
 mod describe;
 mod fault;
 mod job;
