@@ -6,9 +6,9 @@ use crate::call::{Answer, Call};
 use crate::open_list::OpenList;
 
 pub fn call_on<L: OpenList>(list: &mut L, call: Call) -> Answer
-    ensures value { result ≡ answer_of call (slots list.old) (bag list.old) }
-    ensures bag { bag list.new ≡ bag_after call (slots list.old) (bag list.old) }
-    ensures slots { slots list.new ≡ slots list.old }
+    ensures value { result ≡ answer_of call (L.slots list.old) (L.bag list.old) }
+    ensures bag { L.bag list.new ≡ bag_after call (L.slots list.old) (L.bag list.old) }
+    ensures slots { L.slots list.new ≡ L.slots list.old }
 {
     match call {
         Call::Count => Answer::Number(list.count()),

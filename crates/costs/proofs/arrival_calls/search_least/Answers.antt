@@ -2,7 +2,7 @@ use Rattle.std.proofs.Common.{◌≡◌, sym, arith}
 use Rattle.costs.proofs.Leasts.{least_found, least_stays}
 use Rattle.costs.specs.Ordered.{never_itself}
 use Rattle.costs.proofs.arrival_calls.search_least.Goals as goal
-use Rattle.costs.proofs.arrival_calls.search_least.Goals.{then-is-before, else-is-before}
+use Rattle.costs.proofs.arrival_calls.search_least.Goals.{then-is_before, else-is_before}
 
 pub loop-i-init : goal.loop-i-init
 loop-i-init c = (omega arith, λ k h. let start : k ≡ 0 = omega arith in rw start (never_itself _))
@@ -10,7 +10,7 @@ loop-i-init c = (omega arith, λ k h. let start : k ≡ 0 = omega arith in rw st
 pub loop-i-preserved : goal.loop-i-preserved
 loop-i-preserved c =
     let inv = c.loop-i.invariant in
-    elim c.if-is-before.branch [
-      | then-is-before w ↦ rw w.least-is (omega arith, least_found _ _ _ inv.1 (sym w.if-is-before.ensures))
-      | else-is-before w ↦ rw w.least-is (omega arith, least_stays _ _ _ inv.1 (sym w.if-is-before.ensures))
+    elim c.if-is_before.branch [
+      | then-is_before w ↦ rw w.least-is (omega arith, least_found _ _ _ inv.1 (sym w.if-is_before.ensures))
+      | else-is_before w ↦ rw w.least-is (omega arith, least_stays _ _ _ inv.1 (sym w.if-is_before.ensures))
     ]

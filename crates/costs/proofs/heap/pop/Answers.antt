@@ -8,17 +8,17 @@ use Rattle.costs.proofs.Leasts.{least_swapped}
 use Rattle.costs.proofs.Heaps.{top_least, sinks_taken}
 use Rattle.costs.proofs.heap.pop.Goals as goal
 
-pub returns-then-is-empty : goal.returns-then-is-empty
-returns-then-is-empty c =
+pub returns-then-is_empty : goal.returns-then-is_empty
+returns-then-is_empty c =
     let v = c.args.entries.now in
-    let none = eqb-true _ _ (sym c.if-is-empty.ensures) in
+    let none = eqb-true _ _ (sym c.if-is_empty.ensures) in
     let empty = sorted_empty v.items (omega (arith, v.ok.0)) in
     record { heaped = c.requires; value = sym (ap first empty); bag = empty ∙ sym (ap rest empty); len = omega arith; capacity = refl }
 
-pub sift-down-requires : goal.sift-down-requires
-sift-down-requires c =
+pub sift_down-requires : goal.sift_down-requires
+sift_down-requires c =
     let v = c.args.entries.now in
-    let cut = c.swap-remove-least in
+    let cut = c.swap_remove-least in
     let before = v.ok.0 in
     let after = cut.new.self.ok.0 in
     sinks_taken v.items _ (omega (arith, cut.ensures.len)) (λ k ne lt. cut.ensures.by_index.1 k blank ne (omega arith)) c.requires
@@ -26,13 +26,13 @@ sift-down-requires c =
 pub returns : goal.returns
 returns c =
     let v = c.args.entries.now in
-    let some = eqb-false _ _ (sym c.if-is-empty.ensures) in
+    let some = eqb-false _ _ (sym c.if-is_empty.ensures) in
     let within : 0 < length v.items = omega (arith, v.ok.0) in
-    let cut = c.swap-remove-least.ensures in
-    let same = c.sift-down.ensures.same in
+    let cut = c.swap_remove-least.ensures in
+    let same = c.sift_down.ensures.same in
     let least = least_swapped v.items 0 _ within (top_least _ c.requires) in
     record {
-      heaped = c.sift-down.ensures.heaped;
+      heaped = c.sift_down.ensures.heaped;
       value = ap Some (get_or_read v.items 0 _ within cut.value blank) ∙ sym (ap first least);
       bag = same.bag ∙ ap sorted cut.items ∙ sym (ap rest least);
       len = omega (arith, same.len, cut.len);
