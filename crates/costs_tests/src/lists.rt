@@ -19,29 +19,29 @@ fn entry(leading: u32, second: u32, record: u32) -> Entry {
 }
 
 // Three entries go in and come out by rising leading estimate, then second estimate, then record.
-fn serves<L: OpenList>(rt: &impl Abort, list: &mut L) -> Result<(), Fail> {
-    assert_eq!(rt; list.look(), None);
-    assert_eq!(rt; list.take(), None);
-    assert_eq!(rt; list.put(entry(3, 9, 0)), Ok(()));
-    assert_eq!(rt; list.put(entry(3, 2, 2)), Ok(()));
-    assert_eq!(rt; list.put(entry(3, 2, 1)), Ok(()));
-    assert_eq!(rt; list.put(entry(0, 0, 0)), Err(Full));
-    assert_eq!(rt; list.count(), 3);
-    assert_eq!(rt; list.look(), Some(entry(3, 2, 1)));
-    assert_eq!(rt; list.take(), Some(entry(3, 2, 1)));
-    assert_eq!(rt; list.take(), Some(entry(3, 2, 2)));
+fn serves<L: OpenList>(rt: &impl Abort, list: &mut L, make: &str) {
+    assert_eq!(rt; list.look(), None, "{make}");
+    assert_eq!(rt; list.take(), None, "{make}");
+    assert_eq!(rt; list.put(entry(3, 9, 0)), Ok(()), "{make}");
+    assert_eq!(rt; list.put(entry(3, 2, 2)), Ok(()), "{make}");
+    assert_eq!(rt; list.put(entry(3, 2, 1)), Ok(()), "{make}");
+    assert_eq!(rt; list.put(entry(0, 0, 0)), Err(Full), "{make}");
+    assert_eq!(rt; list.count(), 3, "{make}");
+    assert_eq!(rt; list.look(), Some(entry(3, 2, 1)), "{make}");
+    assert_eq!(rt; list.take(), Some(entry(3, 2, 1)), "{make}");
+    assert_eq!(rt; list.take(), Some(entry(3, 2, 2)), "{make}");
     list.clear();
-    assert_eq!(rt; list.count(), 0);
-    assert_eq!(rt; list.slots(), 3);
-    Ok(())
+    assert_eq!(rt; list.count(), 0, "{make}");
+    assert_eq!(rt; list.slots(), 3, "{make}");
 }
 
 #[test]
 fn each_make_serves(rt: HostRuntime) -> Result<(), Fail> {
     let mut tree = HeapList::new(rt.alloc(), 3)?;
     let mut row = ArrivalList::new(rt.alloc(), 3)?;
-    serves(&rt, &mut tree).note("heap")?;
-    serves(&rt, &mut row).note("order of arrival")
+    serves(&rt, &mut tree, "heap");
+    serves(&rt, &mut row, "order of arrival");
+    Ok(())
 }
 
 #[test]

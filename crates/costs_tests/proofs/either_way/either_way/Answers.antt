@@ -7,10 +7,10 @@ returns g c =
     let kind = g.K.CostKind.kind in
     let law = g.met.K.CostKind.lawful in
     let third = c.args.third in
-    let front = joins kind _ _ _ c.in-ok-front.ensures in
-    let back = joins kind _ _ _ c.in-ok-back.ensures in
-    let left = joins kind _ _ _ c.in-ok-join.ensures in
-    let right = joins kind _ _ _ c.in-ok-join-2.ensures in
+    let front = joins kind _ _ _ c.in_ok-front.ensures in
+    let back = joins kind _ _ _ c.in_ok-back.ensures in
+    let left = joins kind _ _ _ c.in_ok-join.ensures in
+    let right = joins kind _ _ _ c.in_ok-join-2.ensures in
     let from_left = left.value ∙ ap (λ (n : ℕ). kind.joined n third) front.value in
     let from_right = right.value ∙ ap (kind.joined c.args.first) back.value in
     record {
