@@ -1,5 +1,5 @@
 -- A file that no question refuses is well formed. Assumes nothing.
-use Rattle.std.proofs.Common.{◌≡◌, ℕ, ◌+◌, ◌-◌, ◌<◌, ◌≤◌, true, false, ◌&&◌, eqb, ltb, leb, List, ◌++◌, length, is_some, Some, None, Option, sym, refl, ap, ◌∙◌, zero-add, arith, length-drop, length-take-le}
+use Rattle.std.proofs.Common.{◌≡◌, ℕ, ◌<◌, ◌≤◌, true, false, ◌&&◌, eqb, ltb, leb, List, ◌++◌, length, is_some, Some, None, Option, sym, refl, ap, ◌∙◌, zero-add, arith, length-drop, length-take-le}
 use Rattle.std.proofs.lemmas.Bool.{and_parts, leb-true, ltb-true, eqb-true}
 use Rattle.survey.specs.declared.refusal.Refusal.{Refusal}
 use Rattle.survey.specs.File.{places, passages, end_of_tables, label_offset, label_length, label_start, label_end, label_at, passage_in}

@@ -49,7 +49,7 @@ fn worked_labels(rt: HostRuntime) -> Result<(), Fail> {
     };
     let survey = Survey::new(WORKED, layout);
     match survey.label(2) {
-        Ok(label) => assert!(rt; label == b"Stair"),
+        Ok(label) => assert!(rt; label == b"Stair".as_slice()),
         Err(_) => return Err(Fail::new("no label")),
     }
     match survey.label(4) {

@@ -36,7 +36,7 @@ fn no_such_ends(rt: HostRuntime) -> Result<(), Fail> {
         b"places 1\npassages 0\nletters #32 #10\nplace 0 a\nstart 1 no such place\ngoal 258 no such place\n";
     match describe(input, Vec::new(rt.alloc())) {
         Ok(text) => {
-            assert!(rt; text.as_slice() == lines);
+            assert!(rt; text.as_slice() == lines.as_slice());
             Ok(())
         },
         Err(_) => Err(Fail::new("refused")),

@@ -6,11 +6,11 @@ use Rattle.survey.proofs.check.all_printable.Goals as goal
 turn : (text : List ℕ) (i : ℕ) (b : Bool) → i < length text → b ≡ printable (get_or text i 0) → (b && each_printable (drop (i + 1) text)) ≡ each_printable (drop i text)
 turn text i b below is = ap (λ (t : Bool). t && each_printable (drop (i + 1) text)) is ∙ sym (at_drop_more each_printable text i 0 below)
 
-pub returns-then-not-is-printable : goal.returns-then-not-is-printable
-returns-then-not-is-printable c = turn _ _ _ c.loop-b-test.true c.if-not-is-printable.ensures ∙ c.loop-b.invariant
+pub returns-then-not-is_printable : goal.returns-then-not-is_printable
+returns-then-not-is_printable c = turn _ _ _ c.loop-b-test.true c.if-not-is_printable.ensures ∙ c.loop-b.invariant
 
 pub loop-b-preserved : goal.loop-b-preserved
-loop-b-preserved c = turn _ _ _ c.loop-b-test.true c.if-not-is-printable.ensures ∙ c.loop-b.invariant
+loop-b-preserved c = turn _ _ _ c.loop-b-test.true c.if-not-is_printable.ensures ∙ c.loop-b.invariant
 
 pub returns : goal.returns
 returns c = sym (at_drop_all each_printable c.args.text.now c.loop-b.b-index c.loop-b-test.false) ∙ c.loop-b.invariant

@@ -10,14 +10,14 @@ returns-then-n-lt10 t c = record {
 
 pub bounds-out-at : goal.bounds-out-at
 bounds-out-at t c =
-    let told = c.write-digits-at.ensures in
-    fewer c.args.n _ _ c.ranges.n.fits told.bound c.write-digits-at.array_long told.digits
+    let told = c.write_digits-at.ensures in
+    fewer c.args.n _ _ c.ranges.n.fits told.bound c.write_digits-at.array_long told.digits
 
 pub returns : goal.returns
 returns t c =
-    let told = c.write-digits-at.ensures in
-    let below : c.write-digits-at.result < 10 = fewer c.args.n _ _ c.ranges.n.fits told.bound c.write-digits-at.array_long told.digits in
+    let told = c.write_digits-at.ensures in
+    let below : c.write_digits-at.result < 10 = fewer c.args.n _ _ c.ranges.n.fits told.bound c.write_digits-at.array_long told.digits in
     record {
       bound = omega arith;
-      digits = last_written c.args.n c.write-digits-at.result c.write-digits-at.new.out c.if-n-lt10.false c.ranges.n.fits (omega (arith, c.write-digits-at.array_long)) told.digits;
+      digits = last_written c.args.n c.write_digits-at.result c.write_digits-at.new.out c.if-n-lt10.false c.ranges.n.fits (omega (arith, c.write_digits-at.array_long)) told.digits;
     }

@@ -5,6 +5,6 @@ use Rattle.survey.proofs.lines.minutes_line.Goals as goal
 
 pub returns : goal.returns
 returns c =
-    let digits = c.as-bytes-digits.result.now in
-    put_after digits (codes " min") c.line-of-line.result c.copy-from-slice.new.self (length digits) _ refl (omega arith) c.line-of-line.ensures c.copy-from-slice.ensures.after ∙
-    ap (λ (l : List ℕ). padded (l ++ codes " min")) (c.as-bytes-digits.ensures ∙ ap decimal c.of-number.ensures)
+    let digits = c.as_bytes-digits.result.now in
+    put_after digits (codes " min") c.line_of-line.result c.copy_from_slice.new.self (length digits) _ refl (omega arith) c.line_of-line.ensures c.copy_from_slice.ensures.after ∙
+    ap (λ (l : List ℕ). padded (l ++ codes " min")) (c.as_bytes-digits.ensures ∙ ap decimal c.of-number.ensures)

@@ -4,38 +4,38 @@ use Rattle.ways.specs.Description.{count_lines, place_lines, place_line, repeate
 use Rattle.ways.proofs.Growth.{lacks_then, lacks_more, adds_then, exit_lacks}
 use Rattle.ways.proofs.describe.add_description.Goals as goal
 
-pub returns-in-err-add-counts : goal.returns-in-err-add-counts
-returns-in-err-add-counts c =
+pub returns-in_err-add_counts : goal.returns-in_err-add_counts
+returns-in_err-add_counts c =
     let bs = file c.args.survey.now in
-    exit_lacks c.add-counts.new.text _ c.from-residual.ensures.0
-    (lacks_more (count_lines bs) _ c.in-err-add-counts.ensures)
+    exit_lacks c.add_counts.new.text _ c.from_residual.ensures.0
+    (lacks_more (count_lines bs) _ c.in_err-add_counts.ensures)
 
-pub returns-in-err-add-places : goal.returns-in-err-add-places
-returns-in-err-add-places c =
+pub returns-in_err-add_places : goal.returns-in_err-add_places
+returns-in_err-add_places c =
     let bs = file c.args.survey.now in
-    exit_lacks c.add-places.new.text _ c.from-residual-in-err-add-places.ensures.0
-    (lacks_then (count_lines bs) _ c.in-ok-add-counts.ensures (lacks_more (place_lines bs) _ c.in-err-add-places.ensures))
+    exit_lacks c.add_places.new.text _ c.from_residual-in_err-add_places.ensures.0
+    (lacks_then (count_lines bs) _ c.in_ok-add_counts.ensures (lacks_more (place_lines bs) _ c.in_err-add_places.ensures))
 
-pub returns-in-err-add-place : goal.returns-in-err-add-place
-returns-in-err-add-place c =
+pub returns-in_err-add_place : goal.returns-in_err-add_place
+returns-in_err-add_place c =
     let bs = file c.args.survey.now in
-    exit_lacks c.add-place.new.text _ c.from-residual-in-err-add-place.ensures.0
-    (lacks_then (count_lines bs) _ c.in-ok-add-counts.ensures (lacks_then (place_lines bs) _ c.in-ok-add-places.ensures
-    (lacks_more (place_line (codes "start ") bs c.args.start) _ c.in-err-add-place.ensures)))
+    exit_lacks c.add_place.new.text _ c.from_residual-in_err-add_place.ensures.0
+    (lacks_then (count_lines bs) _ c.in_ok-add_counts.ensures (lacks_then (place_lines bs) _ c.in_ok-add_places.ensures
+    (lacks_more (place_line (codes "start ") bs c.args.start) _ c.in_err-add_place.ensures)))
 
-pub returns-in-err-add-place-2 : goal.returns-in-err-add-place-2
-returns-in-err-add-place-2 c =
+pub returns-in_err-add_place-2 : goal.returns-in_err-add_place-2
+returns-in_err-add_place-2 c =
     let bs = file c.args.survey.now in
-    exit_lacks c.add-place-2.new.text _ c.from-residual-in-err-add-place-2.ensures.0
-    (lacks_then (count_lines bs) _ c.in-ok-add-counts.ensures (lacks_then (place_lines bs) _ c.in-ok-add-places.ensures
-    (lacks_then (place_line (codes "start ") bs c.args.start) _ c.in-ok-add-place.ensures
-    (lacks_more (place_line (codes "goal ") bs c.args.goal) _ c.in-err-add-place-2.ensures))))
+    exit_lacks c.add_place-2.new.text _ c.from_residual-in_err-add_place-2.ensures.0
+    (lacks_then (count_lines bs) _ c.in_ok-add_counts.ensures (lacks_then (place_lines bs) _ c.in_ok-add_places.ensures
+    (lacks_then (place_line (codes "start ") bs c.args.start) _ c.in_ok-add_place.ensures
+    (lacks_more (place_line (codes "goal ") bs c.args.goal) _ c.in_err-add_place-2.ensures))))
 
 pub returns : goal.returns
 returns c =
     let bs = file c.args.survey.now in
-    let r = c.add-repeater.result in
-    let t = c.add-repeater.new.text in
-    adds_then t (count_lines bs) _ r c.in-ok-add-counts.ensures (adds_then t (place_lines bs) _ r c.in-ok-add-places.ensures
-    (adds_then t (place_line (codes "start ") bs c.args.start) _ r c.in-ok-add-place.ensures
-    (adds_then t (place_line (codes "goal ") bs c.args.goal) (repeater_lines bs c.args.goal) r c.in-ok-add-place-2.ensures c.add-repeater.ensures)))
+    let r = c.add_repeater.result in
+    let t = c.add_repeater.new.text in
+    adds_then t (count_lines bs) _ r c.in_ok-add_counts.ensures (adds_then t (place_lines bs) _ r c.in_ok-add_places.ensures
+    (adds_then t (place_line (codes "start ") bs c.args.start) _ r c.in_ok-add_place.ensures
+    (adds_then t (place_line (codes "goal ") bs c.args.goal) (repeater_lines bs c.args.goal) r c.in_ok-add_place-2.ensures c.add_repeater.ensures)))

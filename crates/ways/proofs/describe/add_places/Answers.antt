@@ -7,21 +7,21 @@ use Rattle.ways.proofs.Growth.{grown_then, lacks_then, lacks_more, exit_lacks}
 use Rattle.ways.proofs.Rows.{rows_more, rows_split}
 use Rattle.ways.proofs.describe.add_places.Goals as goal
 
-pub returns-in-err-add-place : goal.returns-in-err-add-place
-returns-in-err-add-place c =
+pub returns-in_err-add_place : goal.returns-in_err-add_place
+returns-in_err-add_place c =
     let bs = file c.args.survey.now in
     let i = c.loop-place.place in
     let below : i < places bs = omega arith in
-    exit_lacks c.add-place.new.text _ c.from-residual.ensures.0
+    exit_lacks c.add_place.new.text _ c.from_residual.ensures.0
     (subst (λ (l : List ℕ). Lacks c.args.text.now l) (sym (rows_split bs i (places bs) below))
-    (lacks_more _ _ (lacks_then (place_lines_from bs 0 i) (place_line (codes "place ") bs i) c.loop-place.invariant c.in-err-add-place.ensures)))
+    (lacks_more _ _ (lacks_then (place_lines_from bs 0 i) (place_line (codes "place ") bs i) c.loop-place.invariant c.in_err-add_place.ensures)))
 
 pub loop-place-preserved : goal.loop-place-preserved
 loop-place-preserved c =
     let bs = file c.args.survey.now in
     let i = c.loop-place.place in
-    subst (λ (l : List ℕ). Grown c.args.text.now c.add-place.new.text l) (sym (rows_more bs i))
-    (grown_then (place_lines_from bs 0 i) (place_line (codes "place ") bs i) c.loop-place.invariant c.in-ok-add-place.ensures)
+    subst (λ (l : List ℕ). Grown c.args.text.now c.add_place.new.text l) (sym (rows_more bs i))
+    (grown_then (place_lines_from bs 0 i) (place_line (codes "place ") bs i) c.loop-place.invariant c.in_ok-add_place.ensures)
 
 pub returns : goal.returns
 returns c =

@@ -8,9 +8,9 @@ pub returns-then-eq : goal.returns-then-eq
 returns-then-eq c =
     let many = ap (λ (l : Layout). l.places) c.args.self.now.header in
     let same = (slice_eq-Decides Decides-eqb _ _ _ c.eq.ensures).0 c.if-eq.true in
-    (omega arith, sym c.label-bytes.ensures ∙ same, c.loop-place.invariant)
+    (omega arith, sym c.label_bytes.ensures ∙ same, c.loop-place.invariant)
 
 pub loop-place-preserved : goal.loop-place-preserved
 loop-place-preserved c =
     below_more _ _ c.loop-place.invariant
-    (λ same. not_from_Decides _ (slice_eq-Decides Decides-eqb _ _ _ c.eq.ensures) c.if-eq.false (c.label-bytes.ensures ∙ same))
+    (λ same. not_from_Decides _ (slice_eq-Decides Decides-eqb _ _ _ c.eq.ensures) c.if-eq.false (c.label_bytes.ensures ∙ same))
