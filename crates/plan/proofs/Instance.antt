@@ -6,7 +6,7 @@ use Rattle.costs.specs.Kinds.{Kind, Lawful}
 use Rattle.plan.specs.Ways.{Building, passage}
 use Rattle.plan.specs.Rules.{Task}
 use Rattle.plan.specs.Openings.{FairForecast, Fair}
-use Rattle.plan.proofs.Measures.{Algebra, Graph, Measure, Total, size, estimate}
+use Rattle.plan.proofs.Measures.{Algebra, Graph, Measure, estimate}
 use Rattle.plan.proofs.Search.{Problem}
 
 -- the values of a kind, as totals
