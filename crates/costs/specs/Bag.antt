@@ -1,14 +1,14 @@
 -- What an open list means: the bag of its entries, as the list of them in rising order. Assumes nothing.
 -- Equal bags are then equal lists.
---   inserted e es     the rising list es with e in its place
---   sorted es         the bag of the entries es, in whatever order they stand
---   first es          the least entry of a bag, or none
---   rest es           a bag without its least entry
---   LeastAt es r      r is a place of the least entry of es, or none if there is no entry
---   full n es         the bag es fills n slots
+--   inserted e es      the rising list es with e in its place
+--   sorted es          the bag of the entries es, in whatever order they stand
+--   first es           the least entry of a bag, or none
+--   rest es            a bag without its least entry
+--   LeastAt es r       r is a place of the least entry of es, or none if there is no entry
+--   full n es          the bag es fills n slots
 --   put_answer n es    what putting an entry answers, with the bag es and n slots
 --   put_bag n e es     the bag after that, where e was the entry
---   Sound es n        what holds of every open list with the bag es and n slots
+--   Sound es n         what holds of every open list with the bag es and n slots
 use Rattle.std.specs.Prelude.{◌≡◌, ℕ, ◌<◌, ◌≤◌, Bool, cond, List, [], ◌∷◌, length, Some, None, Ok, Err, Option, Result, MatchOption, ◌==◌, slice_index_or}
 use Rattle.std.specs.List.{remove}
 use Rattle.costs.specs.declared.full.Full.{Full}

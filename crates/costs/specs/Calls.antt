@@ -1,7 +1,7 @@
 -- What a call of an open list answers and does, by its bag and its slots alone. Assumes nothing.
---   answer_of c n es   what the call c answers, with n slots and the bag es
---   bag_after c n es   the bag after it
---   Alike P Q p q     p of the make P and q of the make Q have the same bag and the same slots
+--   answer_of c n es    what the call c answers, with n slots and the bag es
+--   bag_after c n es    the bag after it
+--   Alike P Q p q       p of the make P and q of the make Q have the same bag and the same slots
 use Rattle.std.specs.Prelude.{◌≡◌, ℕ, List, [], length}
 use Rattle.costs.specs.declared.call.Answer.{Answer}
 use Rattle.costs.specs.declared.call.Answer.TheVariants as answer

@@ -1,13 +1,13 @@
 -- The tree that a list of entries stands for, and when it is a heap. Assumes nothing.
 -- The places below p are 2 * p + 1 and 2 * p + 2.
---   Below p k         the place k is right below the place p
+--   Below p k          the place k is right below the place p
 --   less_at es i j     the entry at i is less than the one at j
---   Kept es p k       the entry at k is not less than the one at p
---   Heaped es         no entry is less than the one right above it
---   Passes es j       what is right below j is not less than what is right above j
---   Rises es j        a heap, but the entry at j may be less than the one above it
---   Sinks es j        a heap, but the entry at j may be greater than one below it
---   Lesser es j c     c is the right place below j if that has the less entry, and else the left one
+--   Kept es p k        the entry at k is not less than the one at p
+--   Heaped es          no entry is less than the one right above it
+--   Passes es j        what is right below j is not less than what is right above j
+--   Rises es j         a heap, but the entry at j may be less than the one above it
+--   Sinks es j         a heap, but the entry at j may be greater than one below it
+--   Lesser es j c      c is the right place below j if that has the less entry, and else the left one
 use Rattle.std.specs.Prelude.{◌≡◌, ℕ, ◌+◌, ◌*◌, ◌<◌, ◌≤◌, Bool, true, false, List, length, ◌≢◌, slice_index_or}
 use Rattle.costs.specs.declared.entry.Entry.{Entry}
 use Rattle.costs.specs.Order.{blank, before}

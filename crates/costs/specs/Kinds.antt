@@ -1,6 +1,6 @@
 -- What a cost kind is. Assumes nothing.
 --   Kind                 letters, values, the rule that joins two values, two ceilings, and whether it cancels
---   join_limit            the greatest ordinary sum of two values that the program joins
+--   join_limit           the greatest ordinary sum of two values that the program joins
 --   limited k a b        what the program's join of the kind k answers
 --   Lawful k             the laws that every kind keeps, for all its values
 --   sum, worst           the two kinds that there are

@@ -1,7 +1,7 @@
 -- What the two makes of an open list mean. Assumes nothing.
 --   arrival_bag l      what waits in a list in order of arrival
 --   heap_bag l         what waits in a heap
---   Stirred v w       w has the entries of v, in whatever order, and its memory
+--   Stirred v w        w has the entries of v, in whatever order, and its memory
 use Rattle.std.specs.Prelude.{◌≡◌, List, vec_items, vec_len, vec_capacity, Vec}
 use Rattle.std.specs.declared.alloc.Global.{Global}
 use Rattle.costs.specs.declared.entry.Entry.{Entry}

@@ -1,11 +1,11 @@
 -- The order of entries: by the leading estimate, then the second, then the record number. Assumes nothing.
---   entry_of m n k     the entry of the estimates m and n and the record k
---   blank             the entry of zeros, which is read past the end of a list
---   by_first_differing a b     a has the less of the first numbers in which they differ
---   before a b        the same, shut: what is proved of the order rests on its laws
---   Least a es        no entry of es is less than a
---   LeastTo es i n    none of the first n entries of es is less than the one at i
---   Rising es         each entry is least among those from it on
+--   entry_of m n k            the entry of the estimates m and n and the record k
+--   blank                     the entry of zeros, which is read past the end of a list
+--   by_first_differing a b    a has the less of the first numbers in which they differ
+--   before a b                the same, shut: what is proved of the order rests on its laws
+--   Least a es                no entry of es is less than a
+--   LeastTo es i n            none of the first n entries of es is less than the one at i
+--   Rising es                 each entry is least among those from it on
 use Rattle.std.specs.Prelude.{◌≡◌, ℕ, ◌<◌, Bool, false, cond, List, [], ◌∷◌, ◌==◌, nat_lt, slice_index_or}
 use Rattle.costs.specs.declared.entry.Entry.{Entry}
 

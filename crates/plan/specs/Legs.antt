@@ -1,5 +1,5 @@
 -- The legs of a choice, and what it means that they are a way. Assumes nothing.
---   legs_of s n            the legs to the record n, by climbing from parent to parent
+--   legs_of s n           the legs to the record n, by climbing from parent to parent
 --   Running b g h ls      each leg has the place that its passage reaches, and the totals g and h joined up to there
 --   WayWith b s t x ls    the legs are a way from s to t with the totals x, and their running totals are right
 use Rattle.std.specs.Prelude.{◌≡◌, ℕ, zero, suc, List, [], ◌∷◌, ◌++◌, map, get_or, Some, None, Option, slice_index_or}

@@ -4,9 +4,9 @@
 --   begun task           the state after an opening
 --   useless task bs r    with the bests bs, the place of r has one that is at most its second total, or the goal one that is at
 --                        most its second estimate
---   children_from ..      what a record opens up to
+--   children_from ..     what a record opens up to
 --   stepped task s       what a step answers, and the state after it
---   choice_pairs s        the totals of the choices shown, in order
+--   choice_pairs s       the totals of the choices shown, in order
 --   accepted s           how many steps were accepted
 --   after task n         the state after n steps, refused ones among them
 use Rattle.std.specs.Prelude.{ℕ, zero, suc, ◌+◌, ◌-◌, Bool, false, cond, not, ◌&&◌, ◌||◌, List, [], ◌∷◌, ◌++◌, length, replicate, Some, None, Option, ◌==◌, nat_le, slice_index, slice_index_or, slice_set}

@@ -1,10 +1,10 @@
 -- Where the parts of a survey stand in its bytes, numbers with their low byte first. Assumes nothing.
 --   two bs i, four bs i      the number in two, in four bytes from byte i
---   layout_of bs              what the header says: places, passages and the two letters
---   end_of_tables bs             where the two tables end and the labels begin
---   passage_in bs n           the passage with the number n
---   label_start bs p          where the label of p has to begin: where the one before it ended
---   label_at bs p             the bytes of the label of p
+--   layout_of bs             what the header says: places, passages and the two letters
+--   end_of_tables bs         where the two tables end and the labels begin
+--   passage_in bs n          the passage with the number n
+--   label_start bs p         where the label of p has to begin: where the one before it ended
+--   label_at bs p            the bytes of the label of p
 use Rattle.std.specs.Prelude.{ℕ, zero, suc, ◌+◌, ◌*◌, List, take, drop, slice_index}
 use Rattle.survey.specs.declared.layout.Layout.{Layout}
 use Rattle.survey.specs.declared.passage.Passage.{Passage}

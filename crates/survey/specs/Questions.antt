@@ -1,9 +1,9 @@
 -- What a call asks before it is accepted, and what it answers when refused. Assumes nothing.
---   Question          a number, a spot and the answer, true for "yes"
+--   Question           a number, a spot and the answer, true for "yes"
 --   first_no qs        the refusal of the first question of qs with the answer "no", if there is one
---   decided qs v      what a call with the questions qs answers: v, or that refusal
---   each n qs         the questions of 0, then those of 1, up to those of n - 1
---   told f r          a result with its fault told as the refusal that it stands for
+--   decided qs v       what a call with the questions qs answers: v, or that refusal
+--   each n qs          the questions of 0, then those of 1, up to those of n - 1
+--   told f r           a result with its fault told as the refusal that it stands for
 --   told_of g f r      the same, with what g reads off its value
 use Rattle.std.specs.Prelude.{ℕ, zero, suc, Bool, cond, List, [], ◌∷◌, ◌++◌, Some, None, Ok, Err, Option, Result}
 use Rattle.survey.specs.declared.refusal.Refusal.{Refusal}

@@ -1,9 +1,9 @@
 -- The questions of the reader, in their order. Assumes nothing.
 --   each_printable bs       every byte is from 0x20 to 0x7E
---   survey_questions bs    the questions 1 to 8: of the header, of each passage, of each label, of the end
---   checked bs            what the check of bs answers
---   WellFormed bs         what an accepted file is, in words
---   place_questions bs p   question 24, of each call that names a place
+--   survey_questions bs     the questions 1 to 8: of the header, of each passage, of each label, of the end
+--   checked bs              what the check of bs answers
+--   WellFormed bs           what an accepted file is, in words
+--   place_questions bs p    question 24, of each call that names a place
 use Rattle.std.specs.Prelude.{◌≡◌, ℕ, ◌<◌, ◌≤◌, Bool, true, ◌&&◌, List, [], ◌∷◌, ◌++◌, length, Result, ◌==◌, nat_le, nat_lt}
 use Rattle.survey.specs.declared.layout.Layout.{Layout}
 use Rattle.survey.specs.declared.refusal.Refusal.{Refusal}

@@ -4,7 +4,7 @@
 --   place_lines bs           such a line for each place
 --   repeater_lines bs p      what a repeater shows for the place, with its edges
 --   description_of bs s g    all of these, for the survey bs, a start and a goal
---   description input       the same, for what the input holds
+--   description input        the same, for what the input holds
 use Rattle.std.specs.Prelude.{ℕ, zero, suc, cond, List, [], ◌∷◌, ◌++◌, codes, decimal, nat_lt}
 use Rattle.std.specs.List.{concat}
 use Rattle.survey.specs.File.{byte, places, passages, label_at}

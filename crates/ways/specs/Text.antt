@@ -1,10 +1,10 @@
 -- What is written to a text. Assumes nothing.
 --   letter_text b        a letter as itself where it is visible, else `#` and its number
---   written p           the bytes of one part
+--   written p            the bytes of one part
 --   written_all ps       the bytes of all parts, in their order
---   Grown a b bs        b is the text a with bs behind it, and has no less room
---   Lacks a bs          a has no room for bs behind it
---   Adds a b bs r       by r, bs were added to a, which gave b, or a lacked room for them
+--   Grown a b bs         b is the text a with bs behind it, and has no less room
+--   Lacks a bs           a has no room for bs behind it
+--   Adds a b bs r        by r, bs were added to a, which gave b, or a lacked room for them
 use Rattle.std.specs.Prelude.{◌≡◌, ℕ, ◌+◌, ◌<◌, ◌≤◌, Bool, cond, ◌&&◌, List, [], ◌∷◌, ◌++◌, length, vec_items, vec_len, vec_capacity, decimal, Result, Vec, MatchResult, nat_le}
 use Rattle.ways.specs.declared.text.Part.{Part}
 use Rattle.ways.specs.declared.text.Part.TheVariants.{Text, Number, Letter}
