@@ -8,7 +8,7 @@ use Rattle.plan.specs.Openings.{Fair}
 use Rattle.plan.proofs.Search.{In, top, below, Node, second_estimate_at, Blocked, here_before, ended_before}
 use Rattle.plan.proofs.Instance.{problem_of}
 
-at_most_more : (o : Option ℕ) (m n : ℕ) → at_most o m ≡ true → m ≤ n → at_most o n ≡ true
+pub at_most_more : (o : Option ℕ) (m n : ℕ) → at_most o m ≡ true → m ≤ n → at_most o n ≡ true
 at_most_more None m n e le = e
 at_most_more (Some b) m n e le = le-leb b n (omega (arith, leb-true b m e))
 

@@ -1,46 +1,78 @@
--- The worked hotel meets the conditions of the search theorem. Assumes nothing.
-use Rattle.std.proofs.Common.{ℕ, zero, suc, ◌<◌, ◌≤◌, get_or, refl, inl, arith}
+-- What the rules make of the worked hotel, by computing; the frontiers by the search theorem. Assumes nothing.
+use Rattle.std.proofs.Common.{◌≡◌, ℕ, ◌≤◌, ◌&&◌, ltb, List, [], ◌∷◌, length, refl, subst, arith}
+use Rattle.std.proofs.lemmas.Bool.{and_parts, ltb-true}
+use Rattle.std.specs.Fmt.{digits}
+use Rattle.costs.specs.Bag.{inserted}
+use Rattle.costs.specs.Order.{before}
+use Rattle.costs.specs.Kinds.{Lawful}
 use Rattle.costs.proofs.Laws.{sum_lawful, worst_lawful}
-use Rattle.plan.specs.Ways.{passage}
-use Rattle.plan.specs.Openings.{Fits, Fair}
-use Rattle.plan.specs.Worked.{worked_building, worked_task}
+use Rattle.survey.specs.Questions.{Question, ask, each}
+use Rattle.survey.proofs.Asked.{none_yes}
+use Rattle.plan.specs.Ways.{Building, Pair, passage, Frontier}
+use Rattle.plan.specs.Rules.{Task, choice_pairs, after}
+use Rattle.plan.specs.Openings.{value_questions, task_questions, Passed, FairBuilding, Fair}
+use Rattle.plan.specs.Worked.{WorkedHotel, worked_task, seconds_grades, seconds_walls, grades_seconds, pair, task_in}
+use Rattle.plan.proofs.Fairness.{each_passed, leading_fit, second_fit, asked_fair}
+use Rattle.plan.proofs.Frontiers.{frontier_theorem_lem}
 
--- what holds of each passage holds of all five
-five : (Q : ℕ → Type 0) → Q 0 → Q 1 → Q 2 → Q 3 → Q 4 → (n : ℕ) → n < 5 → Q n
-five Q a b c d e zero h = a
-five Q a b c d e (suc zero) h = b
-five Q a b c d e (suc (suc zero)) h = c
-five Q a b c d e (suc (suc (suc zero))) h = d
-five Q a b c d e (suc (suc (suc (suc zero)))) h = e
-five Q a b c d e (suc (suc (suc (suc (suc n))))) h = absurd (omega arith)
+-- both ends of the passage are places, as a question
+abbrev placed : Building → ℕ → List Question
+placed b n = ask 5 n (ltb (passage b n).from b.places && ltb (passage b n).to b.places) ∷ []
 
-four : (Q : ℕ → Type 0) → Q 0 → Q 1 → Q 2 → Q 3 → (n : ℕ) → n < 4 → Q n
-four Q a b c d n h = five (λ k. k < 4 → Q k) (λ _. a) (λ _. b) (λ _. c) (λ _. d) (λ no_fifth. absurd (omega arith)) n (omega arith) h
+-- a building of which the tests compute
+fair_building : (b : Building) → Lawful b.leading → Lawful b.second → Passed (each (length b.passages) (value_questions b)) → Passed (each (length b.passages) (placed b)) → b.places ≤ 256 → length b.passages ≤ 1024 → FairBuilding b
+fair_building b laws others values ends few_places few_passages = record {
+  leading_laws = laws;
+  second_laws = others;
+  leading_fits = leading_fit b values;
+  second_fits = second_fit b values;
+  from_place = λ n inside. ltb-true _ _ (and_parts _ _ (none_yes (placed b n) (each_passed (length b.passages) n (placed b) ends inside)).0).0;
+  to_place = λ n inside. ltb-true _ _ (and_parts _ _ (none_yes (placed b n) (each_passed (length b.passages) n (placed b) ends inside)).0).1;
+  few_places = few_places;
+  few_passages = few_passages;
+}
+
+fair_grades : FairBuilding seconds_grades
+fair_grades = fair_building seconds_grades sum_lawful worst_lawful refl refl (omega arith) (omega arith)
+
+-- what is shown when nothing waits is the frontier
+frontier_by : (task : Task) → Fair task → (n : ℕ) (xs : List Pair) → (after task n).waiting ≡ [] → choice_pairs (after task n) ≡ xs → Frontier task.building task.start task.goal xs
+frontier_by task fair n xs done shown = subst (Frontier task.building task.start task.goal) shown (frontier_theorem_lem task fair n done).frontier
+
+fair_task : (task : Task) → FairBuilding task.building → Passed (task_questions task) → Fair task
+fair_task = asked_fair.opening
 
 pub worked_fair : Fair worked_task
-worked_fair =
-    record {
-      leading_laws = sum_lawful;
-      second_laws = worst_lawful;
-      leading_fits = five (λ n. Fits worked_building.leading (passage worked_building n).leading 1000000) (record { value = refl; within = omega arith }) (record { value = refl; within = omega arith }) (record { value = refl; within = omega arith }) (record { value = refl; within = omega arith }) (record { value = refl; within = omega arith });
-      second_fits = five (λ n. Fits worked_building.second (passage worked_building n).second 15) (record { value = refl; within = omega arith }) (record { value = refl; within = omega arith }) (record { value = refl; within = omega arith }) (record { value = refl; within = omega arith }) (record { value = refl; within = omega arith });
-      from_place = five (λ n. (passage worked_building n).from < 4) (omega arith) (omega arith) (omega arith) (omega arith) (omega arith);
-      to_place = five (λ n. (passage worked_building n).to < 4) (omega arith) (omega arith) (omega arith) (omega arith) (omega arith);
-      few_places = omega arith;
-      start_place = omega arith;
-      goal_place = omega arith;
-      some_slot = omega arith;
-      leading_long = refl;
-      second_long = refl;
-      leading_fair = record {
-        fits = four (λ s. Fits worked_building.leading (get_or worked_task.leading s 0) 1000000000) (record { value = refl; within = omega arith }) (record { value = refl; within = omega arith }) (record { value = refl; within = omega arith }) (record { value = refl; within = omega arith });
-        goal_zero = refl;
-        consistent = five (λ n. get_or worked_task.leading (passage worked_building n).from 0 ≤ worked_building.leading.joined (passage worked_building n).leading (get_or worked_task.leading (passage worked_building n).to 0)) (omega arith) (omega arith) (omega arith) (omega arith) (omega arith);
-      };
-      second_fair = record {
-        fits = four (λ s. Fits worked_building.second (get_or worked_task.second s 0) 15) (record { value = refl; within = omega arith }) (record { value = refl; within = omega arith }) (record { value = refl; within = omega arith }) (record { value = refl; within = omega arith });
-        goal_zero = refl;
-        consistent = five (λ n. get_or worked_task.second (passage worked_building n).from 0 ≤ worked_building.second.joined (passage worked_building n).second (get_or worked_task.second (passage worked_building n).to 0)) (omega arith) (omega arith) (omega arith) (omega arith) (omega arith);
-      };
-      told = inl refl;
-    }
+worked_fair = fair_task worked_task fair_grades refl
+
+pub worked_hotel : WorkedHotel
+unfolding inserted before digits
+worked_hotel = record {
+  building = fair_grades;
+  fair = worked_fair;
+  steps = refl;
+  records = refl;
+  frontier = frontier_by (task_in seconds_grades 0 3 2048) (fair_task (task_in seconds_grades 0 3 2048) fair_grades refl) 7 (pair 20 5 ∷ pair 40 3 ∷ []) refl refl;
+  legs = refl;
+  walls = frontier_by (task_in seconds_walls 0 3 2048) (fair_task (task_in seconds_walls 0 3 2048) (fair_building seconds_walls sum_lawful sum_lawful refl refl (omega arith) (omega arith)) refl) 8 (pair 20 6 ∷ pair 40 5 ∷ []) refl refl;
+  exchanged = frontier_by (task_in grades_seconds 0 3 2048) (fair_task (task_in grades_seconds 0 3 2048) (fair_building grades_seconds worst_lawful sum_lawful refl refl (omega arith) (omega arith)) refl) 8 (pair 3 40 ∷ pair 5 20 ∷ []) refl refl;
+  stay = frontier_by (task_in seconds_grades 0 0 2048) (fair_task (task_in seconds_grades 0 0 2048) fair_grades refl) 1 (pair 0 0 ∷ []) refl refl;
+  stay_steps = refl;
+  stay_choices = refl;
+  stay_legs = refl;
+  back = frontier_by (task_in seconds_grades 3 0 2048) (fair_task (task_in seconds_grades 3 0 2048) fair_grades refl) 1 [] refl refl;
+  back_steps = refl;
+  back_choices = refl;
+  two_slots = refl;
+  three_slots = refl;
+  no_return = refl;
+  forecasts = refl;
+  too_great = refl;
+  not_cancelling = refl;
+  sum_joins = refl;
+  sum_past = refl;
+  worst_joins = refl;
+  worst_past = refl;
+  first_minute = refl;
+  next_minute = refl;
+}

@@ -1,10 +1,10 @@
 -- The choices shown and the frontier over ways. Assumes nothing.
-use Rattle.std.proofs.Common.{◌≡◌, ℕ, ◌<◌, ◌⊎◌, List, [], get_or, sym, refl, ap, ◌∙◌, subst, inl, inr, arith}
+use Rattle.std.proofs.Common.{◌≡◌, ℕ, ◌<◌, ◌≤◌, ◌⊎◌, List, [], ◌∷◌, get_or, sym, refl, ap, ◌∙◌, subst, inl, inr, arith}
 use Rattle.std.proofs.lemmas.Bool.{cases_lt}
-use Rattle.plan.specs.Ways.{Pair, passage, totals, Leads, NoGreater, OnFrontier, FirstOnes, Among, After}
-use Rattle.plan.specs.Rules.{Task, State, record_at, pair_of, choice_pairs, after}
-use Rattle.plan.specs.Legs.{legs_of, WayWith}
-use Rattle.plan.specs.Promise.{SearchTheorem}
+use Rattle.plan.specs.Ways.{Pair, passage, totals, Leads, NoGreater, Beats, OnFrontier, FirstOnes, Among, After}
+use Rattle.plan.specs.Rules.{Task, State, pairs_in, choice_pair, choice_pairs, after}
+use Rattle.plan.specs.Legs.{choice_legs, WayWith}
+use Rattle.plan.specs.Promise.{NoWay, Finished, SearchTheorem, FrontierTheorem}
 use Rattle.plan.specs.Openings.{Fair}
 use Rattle.plan.proofs.Measures.{Way, size, sum}
 use Rattle.plan.proofs.Search.{In, nowhere}
@@ -99,6 +99,33 @@ module _ (task : Task) (fair : Fair task) where
           (omega (arith, z.2, way_lead w leads), omega (arith, z.3, way_second w leads)),
         )
 
+    -- a pair of the frontier is among the choices, as no choice can beat it
+    whole_shown : s.waiting ≡ [] → (x : Pair) → OnFrontier task.building task.start task.goal x → Among x (choice_pairs s)
+    whole_shown done x on =
+        let z = shows_all done on.way on.leads in
+        let lead_less : z.0.lead ≤ x.lead = omega (arith, z.2.0, ap (λ (p : Pair). p.lead) on.costs) in
+        let second_less : z.0.second ≤ x.second = omega (arith, z.2.1, ap (λ (p : Pair). p.second) on.costs) in
+        let shown = shows_first_ones.each z.0 z.1 in
+        let no_less : (z.0.lead < x.lead) ⊎ (z.0.second < x.second) → ⊥ = λ less.
+        on.unbeaten shown.way shown.leads (subst (λ (p : Pair). Beats p x) (sym shown.costs) ((lead_less, second_less), less)) in
+        let lead_is : z.0.lead ≡ x.lead = elim (cases_lt z.0.lead x.lead) [ inl less ↦ absurd (no_less (inl less)) | inr ok ↦ omega arith ] in
+        let second_is : z.0.second ≡ x.second = elim (cases_lt z.0.second x.second) [ inl less ↦ absurd (no_less (inr less)) | inr ok ↦ omega arith ] in
+        subst (λ (p : Pair). Among p (choice_pairs s)) (pair_is z.0 x lead_is second_is) z.1
+
+    none_shown : (ns : List ℕ) → NoWay task.building task.start task.goal → ((x : Pair) → Among x (pairs_in s.records ns) → OnFrontier task.building task.start task.goal x) → ns ≡ []
+    none_shown [] none each = refl
+    none_shown (n ∷ ns) none each = let first = each _ (inl refl) in absurd (none first.way first.leads)
+
+    pub finishes : s.waiting ≡ [] → Finished task s
+    finishes done = record {
+      dominated = shows_all done;
+      frontier = record { first_ones = shows_first_ones; whole = whole_shown done };
+      none = (
+        λ no_choice w leads. let z = shows_all done w leads in subst (λ (ns : List ℕ). Among z.0 (pairs_in s.records ns)) no_choice z.1,
+        λ no_way. none_shown s.choices no_way shows_first_ones.each,
+      );
+    }
+
 pub search_theorem_lem : SearchTheorem
 search_theorem_lem task fair n = record {
   shown = shows_first_ones task fair (after task n) (goes_after task fair n);
@@ -106,8 +133,11 @@ search_theorem_lem task fair n = record {
   legs = λ i inside.
       let bred = bred_after task fair n in
       let choice = bred.at_goal i inside in
-      subst (λ (t : ℕ). WayWith task.building task.start t (pair_of (record_at (after task n) (get_or (after task n).choices i 0))) (legs_of (after task n) (get_or (after task n).choices i 0)))
+      subst (λ (t : ℕ). WayWith task.building task.start t (choice_pair (after task n) i) (choice_legs (after task n) i))
       choice.there (climbs task (after task n).records bred.born (get_or (after task n).choices i 0) (get_or (after task n).choices i 0) (omega arith) choice.stored);
   counts = (counted_after task fair n).counts;
   room = (counted_after task fair n).room;
 }
+
+pub frontier_theorem_lem : FrontierTheorem
+frontier_theorem_lem task fair n = finishes task fair (after task n) (goes_after task fair n)

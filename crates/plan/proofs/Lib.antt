@@ -5,6 +5,7 @@ pub mod Promises
 pub mod Instance
 pub mod Bests
 pub mod Entries
+pub mod Steps
 pub mod Tied
 pub mod Bridge
 pub mod Chosen
@@ -13,4 +14,15 @@ pub mod Climbs
 pub mod Parents
 pub mod Counted
 pub mod Frontiers
+pub mod Trails
+pub mod Fairness
 pub mod Example
+pub mod Blank
+pub mod Loading
+pub mod Refused
+pub mod Kids
+pub mod Stepping
+pub mod Opening
+pub mod Looking
+pub mod Shapes
+pub mod Promised

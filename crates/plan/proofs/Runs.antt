@@ -1,18 +1,18 @@
 -- After every number of steps the choices are the first ones of the frontier. Assumes nothing.
-use Rattle.std.proofs.Common.{◌≡◌, ℕ, zero, suc, ◌-◌, ◌<◌, true, false, eqb, leb, List, [], ◌∷◌, ◌++◌, length, set, replicate, Some, None, Option, sym, refl, ap, ◌∙◌, subst, inl, inr, arith, length-append}
+use Rattle.std.proofs.Common.{◌≡◌, ℕ, ◌<◌, List, [], ◌∷◌, ◌++◌, length, replicate, None, Option, sym, refl, ap, ◌∙◌, subst, inl, inr, arith, length-append}
 use lib.ListN.{length-replicate}
 use Rattle.std.proofs.lemmas.List.{get_or-replicate, get_or_past}
-use Rattle.std.proofs.lemmas.Bool.{cases_lt, cases_Bool, eqb-true, both_ways, cond-true, cond-false}
+use Rattle.std.proofs.lemmas.Bool.{cases_lt, eqb-true, both_ways, cond-true, cond-false}
 use Rattle.costs.specs.declared.entry.Entry.{Entry}
-use Rattle.plan.specs.declared.record.Record.{Record}
 use Rattle.plan.specs.Ways.{Pair}
-use Rattle.plan.specs.Rules.{Task, State, begun, first_record, entry_for, record_at, at_most, best_at, useless, stepped, step_from, step_on, opening_up, children_from, pair_of, after, Stepped, after_drop, after_show, after_open}
+use Rattle.plan.specs.Rules.{Task, State, begun, first_record, entry_for, record_at, at_most, best_at, pair_of, after}
 use Rattle.plan.specs.Openings.{Fair}
 use Rattle.plan.proofs.Measures.{here}
 use Rattle.plan.proofs.Search.{In, top, below, nowhere, Node, by_open, empty}
 use Rattle.plan.proofs.Instance.{problem_of}
 use Rattle.plan.proofs.Bests.{Stands}
-use Rattle.plan.proofs.Tied.{Valid, node_of, Entered, Tied, tied_drop, tied_show, tied_open, is_in, r_valid}
+use Rattle.plan.proofs.Steps.{seen, kids, only_first, Cases, always}
+use Rattle.plan.proofs.Tied.{Valid, node_of, Entered, Tied, tied_drop, tied_show, tied_open, is_in}
 use Rattle.plan.proofs.Chosen.{below_more, below_push, pairs_more, pairs_push, Chosen}
 
 in_one : (e f : Entry) → In f (e ∷ []) → f ≡ e
@@ -30,7 +30,7 @@ module _ (task : Task) (fair : Fair task) where
         | inr outside ↦ get_or_past (replicate task.building.places None) p None (omega (arith, length-replicate {A = Option ℕ} task.building.places None))
       ]
 
-  pub tied_begun : Tied task fair (begun task) []
+  tied_begun : Tied task fair (begun task) []
   tied_begun = record {
     holds = record {
       real_open = λ n o.
@@ -45,17 +45,13 @@ module _ (task : Task) (fair : Fair task) where
     };
     rising = (tt, tt);
     entered = λ e h. subst (Entered task fair (begun task)) (sym (in_one _ _ h)) (record { stored = omega arith; estimates = refl });
-    valid = first_only;
+    valid = only_first (λ n. Valid task fair (record_at (begun task) n)) first_valid;
     table = record {
       long = length-replicate task.building.places None;
       low = λ y h. absurd (nowhere y h);
       met = λ p g e. absurd (both_ways (at_most (best_at (begun task).bests p) g) (ap (λ (o : Option ℕ). at_most o g) (none_yet p)) e);
     };
   }
-    where
-      first_only : (n : ℕ) → n < 1 → Valid task fair (record_at (begun task) n)
-      first_only zero h = first_valid
-      first_only (suc n) h = absurd (omega arith)
 
   -- what holds after every step
   pub record Goes (s : State) : Type 0 where
@@ -63,64 +59,30 @@ module _ (task : Task) (fair : Fair task) where
     pub tied : Tied task fair s closed
     pub chosen : Chosen task fair s closed
 
-  pub goes_begun : Goes (begun task)
-  goes_begun = record { closed = []; tied = tied_begun; chosen = record { stored = tt; pairs = refl } }
-
   module _ (s : State) (g : Goes s) (e : Entry) (es : List Entry) (first : s.waiting ≡ e ∷ es) where
-    abbrev now : Record
-    now = record_at s e.record
-
-    stored_now : e.record < length s.records
+    pub stored_now : e.record < length s.records
     stored_now = (g.tied.entered e (is_in task fair s g.closed g.tied e es first e top)).stored
 
-    goes_drop : useless task s.bests now ≡ true → Goes (after_drop s es).next
-    goes_drop no_use = record { closed = g.closed; tied = tied_drop task fair s g.closed g.tied e es first no_use; chosen = record { stored = g.chosen.stored; pairs = g.chosen.pairs } }
-
-    goes_show : useless task s.bests now ≡ false → eqb now.place task.goal ≡ true → Goes (after_show s es e.record now).next
-    goes_show of_use at_goal = record {
-      closed = node_of task fair now (r_valid task fair s g.closed g.tied e es first) ∷ g.closed;
-      tied = tied_show task fair s g.closed g.tied e es first of_use (eqb-true _ _ at_goal);
-      chosen = record {
-        stored = below_push _ _ _ g.chosen.stored stored_now;
-        pairs = pairs_push s.records e.record s.choices ∙ ap (λ (l : List Pair). l ++ pair_of now ∷ []) g.chosen.pairs ∙ sym (cond-true _ _ _ at_goal);
+    goes_cases : Cases task Goes s e es
+    goes_cases = record {
+      dropped = λ no_use. record { closed = g.closed; tied = tied_drop task fair s g.closed g.tied e es first no_use; chosen = record { stored = g.chosen.stored; pairs = g.chosen.pairs } };
+      shown = λ of_use at_goal. record {
+        closed = _ ∷ g.closed;
+        tied = tied_show task fair s g.closed g.tied e es first of_use (eqb-true _ _ at_goal);
+        chosen = record {
+          stored = below_push _ _ _ g.chosen.stored stored_now;
+          pairs = pairs_push s.records e.record s.choices ∙ ap (λ (l : List Pair). l ++ pair_of (seen s e) ∷ []) g.chosen.pairs ∙ sym (cond-true _ _ _ at_goal);
+        };
+      };
+      opened = λ of_use elsewhere enough. record {
+        closed = _ ∷ g.closed;
+        tied = tied_open task fair s g.closed g.tied e es first of_use;
+        chosen = record {
+          stored = below_more (length s.records) _ s.choices (omega (arith, length-append s.records (kids task s e))) g.chosen.stored;
+          pairs = pairs_more s.records _ s.choices g.chosen.stored ∙ g.chosen.pairs ∙ sym (cond-false _ _ _ elsewhere);
+        };
       };
     }
 
-    goes_open : useless task s.bests now ≡ false → eqb now.place task.goal ≡ false → (kids : List Record) → kids ≡ children_from task (set s.bests now.place (Some now.second)) e.record now 0 task.building.passages → Goes (after_open task s es now kids).next
-    goes_open of_use elsewhere kids is = subst (λ (l : List Record). Goes (after_open task s es now l).next) (sym is) (record {
-      closed = node_of task fair now (r_valid task fair s g.closed g.tied e es first) ∷ g.closed;
-      tied = tied_open task fair s g.closed g.tied e es first of_use;
-      chosen = record {
-        stored = below_more (length s.records) _ s.choices (omega (arith, length-append s.records (children_from task (set s.bests now.place (Some now.second)) e.record now 0 task.building.passages))) g.chosen.stored;
-        pairs = pairs_more s.records _ s.choices g.chosen.stored ∙ g.chosen.pairs ∙ sym (cond-false _ _ _ elsewhere);
-      };
-    })
-
-    goes_on : Goes (step_on task s es e.record now).next
-    goes_on =
-        elim (cases_Bool (useless task s.bests now)) [
-          | inl no_use ↦ subst (λ (t : Stepped). Goes t.next) (sym (cond-true _ _ _ no_use)) (goes_drop no_use)
-          | inr of_use ↦ subst (λ (t : Stepped). Goes t.next) (sym (cond-false _ _ _ of_use))
-              (elim (cases_Bool (eqb now.place task.goal)) [
-                | inl at_goal ↦ subst (λ (t : Stepped). Goes t.next) (sym (cond-true _ _ _ at_goal)) (goes_show of_use at_goal)
-                | inr elsewhere ↦ subst (λ (t : Stepped). Goes t.next) (sym (cond-false _ _ _ elsewhere)) (room of_use elsewhere)
-              ])
-        ]
-      where
-        room : useless task s.bests now ≡ false → eqb now.place task.goal ≡ false → Goes (opening_up task s es now (children_from task (set s.bests now.place (Some now.second)) e.record now 0 task.building.passages)).next
-        room of_use elsewhere =
-            elim (cases_Bool (leb (length (children_from task (set s.bests now.place (Some now.second)) e.record now 0 task.building.passages)) (task.slots - length s.records))) [
-              | inl enough ↦ subst (λ (t : Stepped). Goes t.next) (sym (cond-true _ _ _ enough)) (goes_open of_use elsewhere _ refl)
-              | inr wanting ↦ subst (λ (t : Stepped). Goes t.next) (sym (cond-false _ _ _ wanting)) g
-            ]
-
-  goes_from : (s : State) → Goes s → (w : List Entry) → s.waiting ≡ w → Goes (step_from task s w).next
-  goes_from s g [] e = g
-  goes_from s g (f ∷ es) e = goes_on s g f es e
-
-  pub goes_step : (s : State) → Goes s → Goes (stepped task s).next
-  goes_step s g = goes_from s g s.waiting refl
-
   pub goes_after : (n : ℕ) → Goes (after task n)
-  goes_after zero = goes_begun
-  goes_after (suc n) = goes_step (after task n) (goes_after n)
+  goes_after = always task Goes (record { closed = []; tied = tied_begun; chosen = record { stored = tt; pairs = refl } }) (λ n. goes_cases (after task n))

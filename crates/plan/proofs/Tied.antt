@@ -1,19 +1,20 @@
 -- Each step of the rules is a step of the abstract search. Assumes nothing.
-use Rattle.std.proofs.Common.{◌≡◌, ℕ, ◌+◌, ◌-◌, ◌<◌, true, false, ◌⊎◌, List, [], ◌∷◌, length, get_or, set, Some, sym, refl, ap, ◌∙◌, subst, inl, inr, arith, length-append}
+use Rattle.std.proofs.Common.{◌≡◌, ℕ, ◌+◌, ◌<◌, true, false, ◌⊎◌, List, [], ◌∷◌, length, get_or, sym, refl, ap, ◌∙◌, subst, inl, inr, arith, length-append}
 use Rattle.std.proofs.lemmas.List.{get_or_append_left, get_or-append-add}
-use Rattle.std.proofs.lemmas.Bool.{cases_lt, cases_Bool, both_ways}
+use Rattle.std.proofs.lemmas.Bool.{cases_Bool, both_ways}
 use Rattle.costs.specs.Order.{before, Least, Rising}
 use Rattle.costs.specs.declared.entry.Entry.{Entry}
 use Rattle.costs.specs.Ordered.{never_itself, not_before}
 use Rattle.plan.specs.declared.record.Record.{Record}
 use Rattle.plan.specs.Ways.{passage}
-use Rattle.plan.specs.Rules.{Task, State, record_at, no_record, useless, entry_for, child_along, children_from, after_drop, after_show, after_open}
+use Rattle.plan.specs.Rules.{Task, State, record_at, no_record, useless, entry_for, child_along, after_drop, after_show, after_open}
 use Rattle.plan.specs.Openings.{Fair}
 use Rattle.plan.proofs.Search.{In, top, below, nowhere, Node, lead_estimate_at, second_estimate_at, child, NoLater, NoWorse, Blocked, Answered, blocked, waits, Holds, Same}
 use Rattle.plan.proofs.Kept.{holds_drops, holds_closes}
 use Rattle.plan.proofs.Instance.{problem_of}
 use Rattle.plan.proofs.Bests.{Stands, BestsOf, useless_blocked, blocked_useless, bests_closed}
-use Rattle.plan.proofs.Entries.{in_cons, rising_all, put_old, put_new, in_put, ChildIn, each_child, every_child}
+use Rattle.plan.proofs.Entries.{in_cons, rising_all, put_old, put_new, in_put, every_child}
+use Rattle.plan.proofs.Steps.{bests_then, kids as kids_of, each_kid, each_more}
 
 least_in : (a f : Entry) (es : List Entry) → Least a es → In f es → before f a ≡ false
 least_in a f [] h in_f = absurd (nowhere f in_f)
@@ -25,6 +26,13 @@ module _ (task : Task) (fair : Fair task) where
     pub lead : task.building.leading.is_value r.leading ≡ true
     pub second : task.building.second.is_value r.second ≡ true
     pub place : r.place < task.building.places
+
+  pub child_valid : (r : Record) → Valid r → (parent k : ℕ) → k < length task.building.passages → Valid (child_along task parent r k)
+  child_valid r v parent k inside = record {
+    lead = fair.leading_laws.closed r.leading (passage task.building k).leading v.lead (fair.leading_fits k inside).value;
+    second = fair.second_laws.closed r.second (passage task.building k).second v.second (fair.second_fits k inside).value;
+    place = fair.to_place k inside;
+  }
 
   abbrev pub node_of : (r : Record) → Valid r → Node (problem_of task fair)
   node_of r v = record { place = r.place; lead = (r.leading, v.lead); second = (r.second, v.second) }
@@ -123,7 +131,7 @@ module _ (task : Task) (fair : Fair task) where
       x_unblocked : Blocked (problem_of task fair) closed x → ⊥
       x_unblocked h = both_ways _ of_use (blocked_useless task fair tied.table r x (stands_itself r r_valid) h)
 
-      table_now : BestsOf task fair (set s.bests r.place (Some r.second)) (x ∷ closed)
+      table_now : BestsOf task fair (bests_then s e) (x ∷ closed)
       table_now = bests_closed task fair tied.table r x (stands_itself r r_valid) r_valid.place of_use
 
       pub tied_show : r.place ≡ task.goal → Tied (after_show s es e.record r).next (x ∷ closed)
@@ -147,7 +155,7 @@ module _ (task : Task) (fair : Fair task) where
       }
 
       abbrev pub kids : List Record
-      kids = children_from task (set s.bests r.place (Some r.second)) e.record r 0 task.building.passages
+      kids = kids_of task s e
 
       abbrev pub next : State
       next = (after_open task s es r kids).next
@@ -158,34 +166,10 @@ module _ (task : Task) (fair : Fair task) where
       new_record : (i : ℕ) → record_at next (length s.records + i) ≡ get_or kids i no_record
       new_record i = get_or-append-add s.records kids i no_record
 
-      child_valid : (k : ℕ) → k < length task.building.passages → Valid (child_along task e.record r k)
-      child_valid k inside = record {
-        lead = fair.leading_laws.closed r.leading (passage task.building k).leading r_valid.lead (fair.leading_fits k inside).value;
-        second = fair.second_laws.closed r.second (passage task.building k).second r_valid.second (fair.second_fits k inside).value;
-        place = fair.to_place k inside;
-      }
-
-      kid : (i : ℕ) → i < length kids → ChildIn task (set s.bests r.place (Some r.second)) e.record r 0 task.building.passages (get_or kids i no_record)
-      kid i h = each_child task (set s.bests r.place (Some r.second)) e.record r 0 task.building.passages i h
-
       kid_valid : (i : ℕ) → i < length kids → Valid (get_or kids i no_record)
-      kid_valid i h =
-          let found = kid i h in
-          let same : 0 + found.k ≡ found.k = omega arith in
-          subst Valid (sym (found.is ∙ ap (child_along task e.record r) same)) (child_valid found.k found.inside)
+      kid_valid i h = let found = each_kid task s e i h in subst Valid (sym found.is) (child_valid r r_valid e.record found.by found.inside)
 
       -- an entry that waits afterwards waited before, or is a child's
-      valid_next : (n : ℕ) → n < length next.records → Valid (record_at next n)
-      valid_next n h =
-          elim (cases_lt n (length s.records)) [
-            | inl old ↦ subst Valid (sym (old_record n old)) (tied.valid n old)
-            | inr new ↦
-                let i = n - length s.records in
-                let same : length s.records + (n - length s.records) ≡ n = omega arith in
-                let inside : n - length s.records < length kids = omega (arith, length-append s.records kids) in
-                subst (λ (k : ℕ). Valid (record_at next k)) same (subst Valid (sym (new_record (n - length s.records))) (kid_valid (n - length s.records) inside))
-          ]
-
       entered_next : (f : Entry) → In f next.waiting → Entered next f
       entered_next f in_f =
           elim (in_put task (length s.records) kids es f in_f) [
@@ -215,11 +199,9 @@ module _ (task : Task) (fair : Fair task) where
                 inl (record { entry = o.entry; waits_there = is_in o.entry (below old); is = subst (λ (q : Record). Stands task fair q n) (old_record o.entry.record was.stored) o.is })
             | inr new ↦
                 let number : o.entry.record ≡ length s.records + new.0 = ap (λ (g : Entry). g.record) new.2 in
-                let found = kid new.0 new.1 in
-                let same : 0 + found.k ≡ found.k = omega arith in
-                let is_child : record_at next o.entry.record ≡ child_along task e.record r found.k =
-                ap (record_at next) number ∙ new_record new.0 ∙ found.is ∙ ap (child_along task e.record r) same in
-                inr ((found.k, found.inside), found.leaves, same_node _ n _ (subst (λ (q : Record). Stands task fair q n) is_child o.is) (child_stands found.k found.inside))
+                let found = each_kid task s e new.0 new.1 in
+                let is_child = ap (record_at next) number ∙ new_record new.0 ∙ found.is in
+                inr ((found.by, found.inside), found.leaves, same_node _ n _ (subst (λ (q : Record). Stands task fair q n) is_child o.is) (child_stands found.by found.inside))
           ]
 
       still_open : (n : Node (problem_of task fair)) (f : Entry) → In f es → Stands task fair (record_at s f.record) n → Open next n
@@ -231,12 +213,12 @@ module _ (task : Task) (fair : Fair task) where
 
       children_next : (k : ℕ) (inside : k < length task.building.passages) → (passage task.building k).from ≡ x.place → Answered (problem_of task fair) (Open next) (x ∷ closed) (child (problem_of task fair) x (k, inside))
       children_next k inside leaves =
-          elim (cases_Bool (useless task (set s.bests r.place (Some r.second)) (child_along task e.record r k))) [
+          elim (cases_Bool (useless task (bests_then s e) (child_along task e.record r k))) [
             | inl no_use ↦ blocked (useless_blocked task fair table_now (child_along task e.record r k) _ (child_stands k inside) no_use)
             | inr useful ↦
                 let same : k ≡ 0 + k = omega arith in
-                let there = every_child task (set s.bests r.place (Some r.second)) e.record r 0 task.building.passages k inside leaves
-                (subst (λ (m : ℕ). useless task (set s.bests r.place (Some r.second)) (child_along task e.record r m) ≡ false) same useful) in
+                let there = every_child task (bests_then s e) e.record r 0 task.building.passages k inside leaves
+                (subst (λ (m : ℕ). useless task (bests_then s e) (child_along task e.record r m) ≡ false) same useful) in
                 let is_child : record_at next (length s.records + there.at) ≡ child_along task e.record r k =
                 new_record there.at ∙ there.is ∙ ap (child_along task e.record r) (sym same) in
                 waits (child (problem_of task fair) x (k, inside)) (record {
@@ -262,6 +244,6 @@ module _ (task : Task) (fair : Fair task) where
         });
         rising = rising_all task (length s.records) kids es rise.1;
         entered = entered_next;
-        valid = valid_next;
+        valid = each_more Valid s.records kids tied.valid kid_valid;
         table = table_now;
       }

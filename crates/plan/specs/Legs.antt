@@ -1,8 +1,9 @@
 -- The legs of a choice, and what it means that they are a way. Assumes nothing.
 --   legs_of s n           the legs to the record n, by climbing from parent to parent
+--   choice_legs s i       the legs of the choice i
 --   Running b g h ls      each leg has the place that its passage reaches, and the totals g and h joined up to there
 --   WayWith b s t x ls    the legs are a way from s to t with the totals x, and their running totals are right
-use Rattle.std.specs.Prelude.{◌≡◌, ℕ, zero, suc, List, [], ◌∷◌, ◌++◌, map, get_or, Some, None, Option, slice_index_or}
+use Rattle.std.specs.Prelude.{◌≡◌, ℕ, zero, suc, List, [], ◌∷◌, ◌++◌, map, get_or, Some, None, Option, slice_index, slice_index_or}
 use Rattle.plan.specs.declared.leg.Leg.{Leg}
 use Rattle.plan.specs.declared.record.Record.{Record}
 use Rattle.plan.specs.Ways.{Building, Pair, passage, Leads, totals}
@@ -22,6 +23,9 @@ climb (suc k) rs n = up_from (get_or rs n no_record).parent (climb k rs) (leg_of
 
 abbrev pub legs_of : State → ℕ → List Leg
 legs_of s n = climb n s.records n
+
+abbrev pub choice_legs : State → ℕ → List Leg
+choice_legs s i = legs_of s (slice_index s.choices i)
 
 abbrev pub passages_of : List Leg → List ℕ
 passages_of ls = map (λ (l : Leg). l.passage) ls

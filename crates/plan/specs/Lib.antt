@@ -1,6 +1,13 @@
 pub mod Ways
+pub mod Faults
 pub mod Rules
 pub mod Openings
 pub mod Legs
+pub mod Joins
 pub mod Promise
+pub mod Views
+pub mod Requests
+pub mod Calls
+pub mod Children
+pub mod Runs
 pub mod Worked

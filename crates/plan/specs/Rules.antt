@@ -7,6 +7,7 @@
 --   children_from ..     what a record opens up to
 --   stepped task s       what a step answers, and the state after it
 --   choice_pairs s       the totals of the choices shown, in order
+--   choice_pair s i      the totals of the choice i
 --   accepted s           how many steps were accepted
 --   after task n         the state after n steps, refused ones among them
 use Rattle.std.specs.Prelude.{ℕ, zero, suc, ◌+◌, ◌-◌, Bool, false, cond, not, ◌&&◌, ◌||◌, List, [], ◌∷◌, ◌++◌, length, replicate, Some, None, Option, ◌==◌, nat_le, slice_index, slice_index_or, slice_set}
@@ -152,6 +153,9 @@ pairs_in rs (n ∷ ns) = pair_of (slice_index_or rs n no_record) ∷ pairs_in rs
 
 abbrev pub choice_pairs : State → List Pair
 choice_pairs s = pairs_in s.records s.choices
+
+abbrev pub choice_pair : State → ℕ → Pair
+choice_pair s i = pair_of (record_at s (slice_index s.choices i))
 
 abbrev pub accepted : State → ℕ
 accepted s = s.opened + (s.shown + s.dropped)

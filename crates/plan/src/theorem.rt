@@ -1,7 +1,12 @@
-// What is proved of the rules of the search, before any code of the plan.
-ghost use Rattle.plan.specs.Openings.{Fair};
-ghost use Rattle.plan.specs.Promise.{SearchTheorem};
-ghost use Rattle.plan.specs.Worked.{worked_task};
+// What is proved of the rules of the search, before any code of the plan. A call tells it to a proof.
+ghost use Rattle.plan.specs.Openings.{AskedFair, Fair};
+ghost use Rattle.plan.specs.Promise.{FrontierTheorem, JoinTheorem, SearchTheorem};
+ghost use Rattle.plan.specs.Worked.{WorkedHotel, worked_task};
+
+// A survey that is loaded, and a task that is opened, meet the conditions of the theorems below.
+pub fn asked_is_fair()
+    ensures { AskedFair }
+{}
 
 // For any two kinds that keep the laws, and any fair task: after every number of steps the choices shown
 // are the first ones of the frontier, with their ways; there are no more steps than slots; and once nothing
@@ -10,7 +15,22 @@ pub fn search_theorem()
     ensures { SearchTheorem }
 {}
 
+// Once nothing waits, the choices shown are the whole frontier, and there is none exactly if there is no way.
+pub fn frontier_theorem()
+    ensures { FrontierTheorem }
+{}
+
+// After every number of steps, each join that the next one makes has a result.
+pub fn join_theorem()
+    ensures { JoinTheorem }
+{}
+
 // The theorem speaks of something: the worked hotel is a fair task.
 pub fn worked_is_fair()
     ensures { Fair worked_task }
+{}
+
+// What the rules make of the worked hotel.
+pub fn worked_hotel()
+    ensures { WorkedHotel }
 {}

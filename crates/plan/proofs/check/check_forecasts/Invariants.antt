@@ -1,0 +1,12 @@
+use Rattle.std.proofs.Common.{◌≡◌, ◌-◌}
+use Rattle.survey.specs.Questions.{first_no, each, each_from}
+use Rattle.plan.specs.Requests.{requested}
+use Rattle.plan.specs.Openings.{forecast_questions}
+use Rattle.plan.specs.Views.{building_in}
+use Rattle.plan.proofs.check.check_forecasts.Given as goal
+
+-- what is left decides
+abbrev pub invariant-loop-place : goal.invariant-loop-place
+invariant-loop-place g l =
+    first_no (each_from l.place (l.table.place_count - l.place) (forecast_questions (requested l.request (building_in g.A.CostKind.kind g.B.CostKind.kind l.table)))) ≡
+    first_no (each l.table.place_count (forecast_questions (requested l.request (building_in g.A.CostKind.kind g.B.CostKind.kind l.table))))
