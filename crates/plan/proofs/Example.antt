@@ -11,7 +11,7 @@ use Rattle.survey.proofs.Asked.{none_yes}
 use Rattle.plan.specs.Ways.{Building, Pair, passage, Frontier}
 use Rattle.plan.specs.Rules.{Task, choice_pairs, after}
 use Rattle.plan.specs.Openings.{value_questions, task_questions, Passed, FairBuilding, Fair}
-use Rattle.plan.specs.Worked.{WorkedHotel, worked_task, seconds_grades, seconds_walls, grades_seconds, pair, task_in}
+use Rattle.plan.specs.Worked.{WorkedHotel, worked_task, worked_building, seconds_walls, grades_seconds, pair, task_in}
 use Rattle.plan.proofs.Fairness.{each_passed, leading_fit, second_fit, asked_fair}
 use Rattle.plan.proofs.Frontiers.{frontier_theorem_lem}
 
@@ -32,8 +32,8 @@ fair_building b laws others values ends few_places few_passages = record {
   few_passages = few_passages;
 }
 
-fair_grades : FairBuilding seconds_grades
-fair_grades = fair_building seconds_grades sum_lawful worst_lawful refl refl (omega arith) (omega arith)
+fair_grades : FairBuilding worked_building
+fair_grades = fair_building worked_building sum_lawful worst_lawful refl refl (omega arith) (omega arith)
 
 -- what is shown when nothing waits is the frontier
 frontier_by : (task : Task) → Fair task → (n : ℕ) (xs : List Pair) → (after task n).waiting ≡ [] → choice_pairs (after task n) ≡ xs → Frontier task.building task.start task.goal xs
@@ -52,15 +52,15 @@ worked_hotel = record {
   fair = worked_fair;
   steps = refl;
   records = refl;
-  frontier = frontier_by (task_in seconds_grades 0 3 2048) (fair_task (task_in seconds_grades 0 3 2048) fair_grades refl) 7 (pair 20 5 ∷ pair 40 3 ∷ []) refl refl;
+  frontier = frontier_by (task_in worked_building 0 3 2048) (fair_task (task_in worked_building 0 3 2048) fair_grades refl) 7 (pair 20 5 ∷ pair 40 3 ∷ []) refl refl;
   legs = refl;
   walls = frontier_by (task_in seconds_walls 0 3 2048) (fair_task (task_in seconds_walls 0 3 2048) (fair_building seconds_walls sum_lawful sum_lawful refl refl (omega arith) (omega arith)) refl) 8 (pair 20 6 ∷ pair 40 5 ∷ []) refl refl;
   exchanged = frontier_by (task_in grades_seconds 0 3 2048) (fair_task (task_in grades_seconds 0 3 2048) (fair_building grades_seconds worst_lawful sum_lawful refl refl (omega arith) (omega arith)) refl) 8 (pair 3 40 ∷ pair 5 20 ∷ []) refl refl;
-  stay = frontier_by (task_in seconds_grades 0 0 2048) (fair_task (task_in seconds_grades 0 0 2048) fair_grades refl) 1 (pair 0 0 ∷ []) refl refl;
+  stay = frontier_by (task_in worked_building 0 0 2048) (fair_task (task_in worked_building 0 0 2048) fair_grades refl) 1 (pair 0 0 ∷ []) refl refl;
   stay_steps = refl;
   stay_choices = refl;
   stay_legs = refl;
-  back = frontier_by (task_in seconds_grades 3 0 2048) (fair_task (task_in seconds_grades 3 0 2048) fair_grades refl) 1 [] refl refl;
+  back = frontier_by (task_in worked_building 3 0 2048) (fair_task (task_in worked_building 3 0 2048) fair_grades refl) 1 [] refl refl;
   back_steps = refl;
   back_choices = refl;
   two_slots = refl;

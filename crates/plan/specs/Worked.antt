@@ -1,5 +1,6 @@
 -- The worked hotel: Desk, Hall, Stair and Room 4, and what the rules make of it. Assumes nothing.
---   worked_task           from Desk to Room 4 in seconds and smoke grades, without forecasts
+--   worked_building       in seconds and smoke grades
+--   worked_task           from Desk to Room 4, without forecasts
 --   task_in b s t n       from s to t in the building b, without forecasts, with n slots
 --   answers task n        what the first n steps answer
 use Rattle.std.specs.Prelude.{◌≡◌, ℕ, zero, suc, List, [], ◌∷◌, length, Some, None, Ok, Err, codes, Result}
@@ -26,24 +27,12 @@ worked_building = record { leading = sum; second = worst; places = 4; passages =
 abbrev pub worked_task : Task
 worked_task = record { building = worked_building; start = 0; goal = 3; leading = 0 ∷ 0 ∷ 0 ∷ 0 ∷ []; second = 0 ∷ 0 ∷ 0 ∷ 0 ∷ []; slots = 2048 }
 
-abbrev pub along : ℕ → ℕ → Pair → Passage
-along s t v = record { from = s; to = t; leading = v.lead; second = v.second }
-
 abbrev pub pair : ℕ → ℕ → Pair
 pair m n = record { lead = m; second = n }
 
--- seconds and smoke grades
-abbrev pub seconds_grades : Building
-seconds_grades = record {
-  leading = sum;
-  second = worst;
-  places = 4;
-  passages = along 0 1 (pair 10 5) ∷ along 0 2 (pair 20 2) ∷ along 1 3 (pair 10 1) ∷ along 2 3 (pair 20 3) ∷ along 1 2 (pair 5 0) ∷ [];
-}
-
 -- seconds and walls pierced, with the same values
 abbrev pub seconds_walls : Building
-seconds_walls = record { leading = sum; second = sum; places = 4; passages = seconds_grades.passages }
+seconds_walls = record { leading = sum; second = sum; places = 4; passages = worked_building.passages }
 
 -- smoke grades and seconds, with the values exchanged
 abbrev pub grades_seconds : Building
@@ -51,12 +40,12 @@ grades_seconds = record {
   leading = worst;
   second = sum;
   places = 4;
-  passages = along 0 1 (pair 5 10) ∷ along 0 2 (pair 2 20) ∷ along 1 3 (pair 1 10) ∷ along 2 3 (pair 3 20) ∷ along 1 2 (pair 0 5) ∷ [];
+  passages = leg 0 1 5 10 ∷ leg 0 2 2 20 ∷ leg 1 3 1 10 ∷ leg 2 3 3 20 ∷ leg 1 2 0 5 ∷ [];
 }
 
 -- a passage from a place to itself, and one to the goal
 abbrev pub with_loop : Building
-with_loop = record { leading = sum; second = sum; places = 2; passages = along 0 0 (pair 1 1) ∷ along 0 1 (pair 1 1) ∷ [] }
+with_loop = record { leading = sum; second = sum; places = 2; passages = leg 0 0 1 1 ∷ leg 0 1 1 1 ∷ [] }
 
 abbrev pub no_forecasts : List ℕ
 no_forecasts = 0 ∷ 0 ∷ 0 ∷ 0 ∷ []
@@ -87,31 +76,31 @@ leg_by n p m s = record { passage = n; place = p; leading = m; second = s }
 
 pub record WorkedHotel : Type 0 where
   -- from Desk to Room 4
-  pub building : FairBuilding seconds_grades
-  pub fair : Fair (task_in seconds_grades 0 3 2048)
-  pub steps : answers (task_in seconds_grades 0 3 2048) 8 ≡ Ok (OpenedUp 2) ∷ Ok (OpenedUp 2) ∷ Ok (OpenedUp 1) ∷ Ok (OpenedUp 1) ∷ Ok Shown ∷ Ok Dropped ∷ Ok Shown ∷ refused 20 0 ∷ []
-  pub records : length (after (task_in seconds_grades 0 3 2048) 7).records ≡ 7
-  pub frontier : Frontier seconds_grades 0 3 (pair 20 5 ∷ pair 40 3 ∷ [])
-  pub legs : choice_legs (after (task_in seconds_grades 0 3 2048) 7) 0 ≡ leg_by 0 1 10 5 ∷ leg_by 2 3 20 5 ∷ []
+  pub building : FairBuilding worked_building
+  pub fair : Fair (task_in worked_building 0 3 2048)
+  pub steps : answers (task_in worked_building 0 3 2048) 8 ≡ Ok (OpenedUp 2) ∷ Ok (OpenedUp 2) ∷ Ok (OpenedUp 1) ∷ Ok (OpenedUp 1) ∷ Ok Shown ∷ Ok Dropped ∷ Ok Shown ∷ refused 20 0 ∷ []
+  pub records : length (after (task_in worked_building 0 3 2048) 7).records ≡ 7
+  pub frontier : Frontier worked_building 0 3 (pair 20 5 ∷ pair 40 3 ∷ [])
+  pub legs : choice_legs (after (task_in worked_building 0 3 2048) 7) 0 ≡ leg_by 0 1 10 5 ∷ leg_by 2 3 20 5 ∷ []
   -- in other kinds
   pub walls : Frontier seconds_walls 0 3 (pair 20 6 ∷ pair 40 5 ∷ [])
   pub exchanged : Frontier grades_seconds 0 3 (pair 3 40 ∷ pair 5 20 ∷ [])
   -- from a place to itself, and to one that no way reaches
-  pub stay : Frontier seconds_grades 0 0 (pair 0 0 ∷ [])
-  pub stay_steps : answers (task_in seconds_grades 0 0 2048) 2 ≡ Ok Shown ∷ refused 20 0 ∷ []
-  pub stay_choices : choice_pairs (after (task_in seconds_grades 0 0 2048) 1) ≡ pair 0 0 ∷ []
-  pub stay_legs : choice_legs (after (task_in seconds_grades 0 0 2048) 1) 0 ≡ []
-  pub back : Frontier seconds_grades 3 0 []
-  pub back_steps : answers (task_in seconds_grades 3 0 2048) 2 ≡ Ok (OpenedUp 0) ∷ refused 20 0 ∷ []
-  pub back_choices : choice_pairs (after (task_in seconds_grades 3 0 2048) 1) ≡ []
+  pub stay : Frontier worked_building 0 0 (pair 0 0 ∷ [])
+  pub stay_steps : answers (task_in worked_building 0 0 2048) 2 ≡ Ok Shown ∷ refused 20 0 ∷ []
+  pub stay_choices : choice_pairs (after (task_in worked_building 0 0 2048) 1) ≡ pair 0 0 ∷ []
+  pub stay_legs : choice_legs (after (task_in worked_building 0 0 2048) 1) 0 ≡ []
+  pub back : Frontier worked_building 3 0 []
+  pub back_steps : answers (task_in worked_building 3 0 2048) 2 ≡ Ok (OpenedUp 0) ∷ refused 20 0 ∷ []
+  pub back_choices : choice_pairs (after (task_in worked_building 3 0 2048) 1) ≡ []
   -- with few slots
-  pub two_slots : answers (task_in seconds_grades 0 3 2) 1 ≡ refused 21 0 ∷ []
-  pub three_slots : answers (task_in seconds_grades 0 3 3) 1 ≡ Ok (OpenedUp 2) ∷ []
+  pub two_slots : answers (task_in worked_building 0 3 2) 1 ≡ refused 21 0 ∷ []
+  pub three_slots : answers (task_in worked_building 0 3 3) 1 ≡ Ok (OpenedUp 2) ∷ []
   -- a child at its parent's own place is useless from the start, and takes no record
   pub no_return : answers (record { building = with_loop; start = 0; goal = 1; leading = 0 ∷ 0 ∷ []; second = 0 ∷ 0 ∷ []; slots = 2 }) 1 ≡ Ok (OpenedUp 1) ∷ []
   -- with forecasts
-  pub forecasts : asked (forecast_task seconds_grades (20 ∷ 10 ∷ 20 ∷ 0 ∷ [])) ≡ Ok tt
-  pub too_great : asked (forecast_task seconds_grades (21 ∷ 10 ∷ 20 ∷ 0 ∷ [])) ≡ refused 18 0
+  pub forecasts : asked (forecast_task worked_building (20 ∷ 10 ∷ 20 ∷ 0 ∷ [])) ≡ Ok tt
+  pub too_great : asked (forecast_task worked_building (21 ∷ 10 ∷ 20 ∷ 0 ∷ [])) ≡ refused 18 0
   pub not_cancelling : asked (forecast_task grades_seconds (0 ∷ 1 ∷ 0 ∷ 0 ∷ [])) ≡ refused 17 1
   -- joins
   pub sum_joins : limited sum 1999999999 1 ≡ Some 2000000000
