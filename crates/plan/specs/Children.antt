@@ -1,10 +1,10 @@
 -- What a record opens up to, read off a table. Assumes nothing.
---   aim_in k m t e         the task in the table t between the ends e; how many slots it has does not matter to children
---   bests_with t r         the bests in the table, with that of the place of r at its second total
---   child_with task r      the record r with its estimates
---   kids_of k m t e n r    the children of the record r with the number n
---   Opens k m t e r        what opening up r needs
---   Added task rs b es b' es'   the records rs are stored, and their entries wait
+--   aim_in k m t e               the task in the table t between the ends e; how many slots it has does not matter to children
+--   bests_with t r               the bests in the table, with that of the place of r at its second total
+--   child_with task r            the record r with its estimates
+--   kids_of k m t e n r          the children of the record r with the number n
+--   Opens k m t e r              what opening up r needs
+--   Added task rs b es b' es'    the records rs are stored, and their entries wait
 use Rattle.std.specs.Prelude.{◌≡◌, ℕ, ◌+◌, ◌<◌, ◌≤◌, true, cond, List, ◌++◌, length, take, Some, None, Option, slice_set}
 use Rattle.costs.specs.Kinds.{Kind}
 use Rattle.costs.specs.declared.entry.Entry.{Entry}

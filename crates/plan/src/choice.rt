@@ -9,6 +9,7 @@ use costs::open_list::OpenList;
 
 impl<A: CostKind, B: CostKind, Q: OpenList> Plan<A, B, Q> {
     // The leading and the second total.
+    #[tactic(auto, using(crate::proofs::Looking::look_up))]
     pub(crate) fn choice(&self, number: u32) -> Result<(u32, u32), PlanFault>
         requires sound { Sound A.CostKind.kind B.CostKind.kind Q.OpenList self.now }
         ensures { LookUp A.CostKind.kind B.CostKind.kind Q.OpenList self.now number result }

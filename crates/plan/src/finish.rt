@@ -9,6 +9,7 @@ use costs::kind::CostKind;
 use costs::open_list::OpenList;
 
 impl<A: CostKind + Drop, B: CostKind + Drop, Q: OpenList> Plan<A, B, Q> {
+    #[tactic(auto, using(crate::proofs::Looking::counts_opened, crate::proofs::Looking::counts_unopened))]
     pub(crate) fn finish(self) -> (Q, Counts)
         requires sound { Sound A.CostKind.kind B.CostKind.kind Q.OpenList self }
         ensures bag { Q.OpenList.bag result.0 ≡ [] }

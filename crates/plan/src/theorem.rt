@@ -1,4 +1,4 @@
-// What is proved of the rules of the search, before any code of the plan. A call tells it to a proof.
+// What is proved of the rules of the search, whatever code keeps to them. A call tells it to a proof.
 ghost use Rattle.plan.specs.Openings.{AskedFair, Fair};
 ghost use Rattle.plan.specs.Promise.{FrontierTheorem, JoinTheorem, SearchTheorem};
 ghost use Rattle.plan.specs.Worked.{WorkedHotel, worked_task};
@@ -10,7 +10,7 @@ pub fn asked_is_fair()
 
 // For any two kinds that keep the laws, and any fair task: after every number of steps the choices shown
 // are the first ones of the frontier, with their ways; there are no more steps than slots; and once nothing
-// waits, every way costs at least as much as some choice. A call tells this to a proof.
+// waits, every way costs at least as much as some choice.
 pub fn search_theorem()
     ensures { SearchTheorem }
 {}
