@@ -1,50 +1,37 @@
--- The least entry of a list: how it is found, and that it comes first in the bag. Assumes nothing.
-use Rattle.std.proofs.Common.{◌≡◌, ℕ, suc, ◌+◌, ◌<◌, true, false, List, [], ◌∷◌, length, get_or, ◌∙◌, subst, inl, inr, arith, below_more}
-use Rattle.std.specs.List.{remove, swap_remove}
-use Rattle.std.proofs.lemmas.Bool.{cases_Bool}
+-- The least entry of a list comes first in its bag. Assumes nothing.
+use Rattle.std.proofs.Common.{◌≡◌, ℕ, ◌<◌, false, List, [], ◌∷◌, length, get_or, Some, All, sym, subst, ap, ◌∙◌, arith}
+use Rattle.std.specs.List.{remove}
+use Rattle.std.specs.List.Sorted.{IsPermutation}
+use Rattle.std.proofs.lemmas.List.{get_or_default, get_or_read}
+use Rattle.std.proofs.lemmas.List.Elements.{All-from_get_or, All-tail}
+use Rattle.std.proofs.lemmas.List.Sorted.{All-permutation, IsPermutation-remove}
 use Rattle.costs.specs.declared.entry.Entry.{Entry}
 use Rattle.costs.specs.Order.{blank, before, Least, LeastTo}
-use Rattle.costs.specs.Bag.{inserted, sorted}
-use Rattle.costs.specs.Bags.{past, here, least_sorted, least_front}
-use Rattle.costs.proofs.Moves.{sorted_removed, sorted_swapped}
-use Rattle.costs.specs.Ordered.{never_itself, one_way, not_greater_on}
+use Rattle.costs.specs.Bag.{sorted, first, rest}
+use Rattle.costs.specs.Bags.{least_sorted, least_front}
+use Rattle.costs.proofs.Moves.{sorted_same}
 
--- a search, one place on
-pub least_found : (es : List Entry) (j i : ℕ) → LeastTo es j i → before (get_or es i blank) (get_or es j blank) ≡ true → LeastTo es i (i + 1)
-least_found es j i least less =
-    below_more _ _ (λ k h. not_greater_on _ _ _ (one_way _ _ less) (least k h)) (never_itself _)
+-- es is a and fs, in whatever order
+pub least_first : (a : Entry) (es fs : List Entry) → IsPermutation es (a ∷ fs) → Least a fs → sorted es ≡ a ∷ sorted fs
+least_first a es fs same least = sym (sorted_same es (a ∷ fs) same) ∙ least_front a _ (least_sorted a fs least)
 
-pub least_stays : (es : List Entry) (j i : ℕ) → LeastTo es j i → before (get_or es i blank) (get_or es j blank) ≡ false → LeastTo es j (i + 1)
-least_stays es j i least no_less = below_more _ _ least no_less
+abbrev NoLess : Entry → Entry → Type 0
+NoLess a e = before e a ≡ false
 
--- from the places of a list to its entries
-least_all : (a : Entry) (es : List Entry) → ((k : ℕ) → k < length es → before (get_or es k blank) a ≡ false) → Least a es
+least_all : (a : Entry) (es : List Entry) → All (NoLess a) es → Least a es
 least_all a [] h = tt
-least_all a (e ∷ es) h = (h 0 (omega arith), least_all a es (λ k g. h (suc k) (omega arith)))
+least_all a (e ∷ es) h = (h 0 e (omega arith), least_all a es (All-tail (NoLess a) e es h))
 
-least_beside : (a b : Entry) (es : List Entry) → Least a (inserted b es) → Least a es
-least_beside a b [] h = tt
-least_beside a b (e ∷ es) h =
-    elim (cases_Bool (before e b)) [
-      | inl g ↦ let k = rw (past b e es g) at h in (k.0, least_beside a b es k.1)
-      | inr g ↦ let k = rw (here b e es g) at h in k.1
-    ]
+-- the least entry is taken out
+split : (es : List Entry) (i : ℕ) (a : Entry) → i < length es → a ≡ get_or es i a → LeastTo es i (length es) → sorted es ≡ a ∷ sorted (remove es i)
+split es i a within read least =
+    let same = IsPermutation-remove es i a within read in
+    let is = sym (get_or_read es i a within read blank) in
+    let all : All (NoLess a) es = All-from_get_or (NoLess a) es blank (λ k h. subst (λ (b : Entry). NoLess b (get_or es k blank)) is (least k h)) in
+    least_first a es _ same (least_all a _ (All-tail (NoLess a) a _ (All-permutation (NoLess a) es _ same all)))
 
--- es is the least entry and fs
-least_first : (es fs : List Entry) (i : ℕ) → LeastTo es i (length es) → sorted es ≡ inserted (get_or es i blank) (sorted fs) → sorted es ≡ get_or es i blank ∷ sorted fs
-least_first es fs i least split =
-    let a = get_or es i blank in
-    let all : Least a (sorted es) = least_sorted a es (least_all a es least) in
-    let bag : Least a (inserted a (sorted fs)) = subst (λ (l : List Entry). Least a l) split all in
-    split ∙ least_front a _ (least_beside a a (sorted fs) bag)
+pub first_is : (es : List Entry) (i : ℕ) (a : Entry) → i < length es → a ≡ get_or es i a → LeastTo es i (length es) → first (sorted es) ≡ Some a
+first_is es i a within read least = ap first (split es i a within read least)
 
--- the least entry is taken out of a list, which was read as ds
-pub least_removed : (ds es : List Entry) (i : ℕ) → ds ≡ es → i < length ds → LeastTo ds i (length ds) → (i < length es) × (sorted es ≡ get_or es i blank ∷ sorted (remove es i))
-least_removed ds es i same within least =
-    let within' : i < length es = subst (λ (l : List Entry). i < length l) same within in
-    let least' = subst (λ (l : List Entry). LeastTo l i (length l)) same least in
-    (within', least_first es (remove es i) i least' (sorted_removed es i blank within'))
-
--- the last entry takes its place
-pub least_swapped : (es : List Entry) (i : ℕ) (d : Entry) → i < length es → LeastTo es i (length es) → sorted es ≡ get_or es i blank ∷ sorted (swap_remove es i d)
-least_swapped es i d within least = least_first es (swap_remove es i d) i least (sorted_swapped es i d within)
+pub rest_is : (es : List Entry) (i : ℕ) → i < length es → LeastTo es i (length es) → rest (sorted es) ≡ sorted (remove es i)
+rest_is es i within least = ap rest (split es i (get_or es i blank) within (get_or_default es i _ _ within) least)

@@ -1,5 +1,5 @@
 pub mod Joins
 pub mod Moves
 pub mod Leasts
-pub mod Heaps
+pub mod Reversed
 pub mod Laws

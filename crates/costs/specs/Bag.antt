@@ -4,16 +4,14 @@
 --   sorted es          the bag of the entries es, in whatever order they stand
 --   first es           the least entry of a bag, or none
 --   rest es            a bag without its least entry
---   LeastAt es r       r is a place of the least entry of es, or none if there is no entry
 --   full n es          the bag es fills n slots
 --   put_answer n es    what putting an entry answers, with the bag es and n slots
 --   put_bag n e es     the bag after that, where e was the entry
 --   Sound es n         what holds of every open list with the bag es and n slots
-use Rattle.std.specs.Prelude.{◌≡◌, ℕ, ◌<◌, ◌≤◌, Bool, cond, List, [], ◌∷◌, length, Some, None, Ok, Err, Option, Result, MatchOption, ◌==◌, slice_index_or}
-use Rattle.std.specs.List.{remove}
+use Rattle.std.specs.Prelude.{ℕ, ◌≤◌, Bool, cond, List, [], ◌∷◌, length, Some, None, Ok, Err, Option, Result, ◌==◌}
 use Rattle.costs.specs.declared.full.Full.{Full}
 use Rattle.costs.specs.declared.entry.Entry.{Entry}
-use Rattle.costs.specs.Order.{blank, before, Rising}
+use Rattle.costs.specs.Order.{before, Rising}
 
 unfoldable pub inserted : Entry → List Entry → List Entry
 inserted a [] = a ∷ []
@@ -30,9 +28,6 @@ first (e ∷ es) = Some e
 abbrev pub rest : List Entry → List Entry
 rest [] = []
 rest (e ∷ es) = es
-
-abbrev pub LeastAt : List Entry → Option ℕ → Type 0
-LeastAt es r = MatchOption r (sorted es ≡ []) (λ i. (i < length es) × (sorted es ≡ slice_index_or es i blank ∷ sorted (remove es i)))
 
 abbrev pub full : ℕ → List Entry → Bool
 full n es = length es == n

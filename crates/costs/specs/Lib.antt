@@ -1,8 +1,7 @@
 pub mod Kinds
 pub mod Order
 pub mod Bag
-pub mod Heap
-pub mod Makes
+pub mod Reversed
 pub mod Calls
 pub mod Bags
 pub mod Ordered

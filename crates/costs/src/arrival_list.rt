@@ -1,14 +1,70 @@
 // The open list in order of arrival.
-ghost use Rattle.std.specs.Prelude.{◌≤◌, vec_len, vec_capacity};
+ghost use Rattle.std.specs.Prelude.{◌≡◌, ◌<◌, length, IfNone, IfSome};
+ghost use Rattle.costs.specs.Order.{LeastTo};
 
 use crate::entry::Entry;
+use crate::slot_list::SlotList;
+use crate::store::Store;
+use std::alloc::{AllocError, Global};
 
-// No more wait than there are slots, and the memory for every slot is there.
+pub type ArrivalList = SlotList<Arrivals>;
+
+// The entries in order of arrival, which are searched for the least.
 #[derive(Drop)]
-pub struct ArrivalList {
-    pub(crate) entries: Vec<Entry>,
-    pub(crate) slots: usize,
-    ghost within: { vec_len entries ≤ slots },
-    ghost reserved: { slots ≤ vec_capacity entries },
-    ghost limit: { slots ≤ 2048 },
+pub struct Arrivals {
+    entries: Vec<Entry>,
+}
+
+impl Store for Arrivals {
+    ghost use Rattle.std.specs.Prelude.{vec_capacity};
+    ghost use Rattle.costs.specs.Bag.{sorted};
+    ghost use Rattle.costs.specs.Bags.{rising_sorted};
+
+    ghost bag = { λ list. sorted list.entries.items };
+
+    ghost room = { λ list. vec_capacity list.entries };
+
+    ghost rising = { λ list. rising_sorted list.entries.items };
+
+    fn with_room(heap: Global, slots: usize) -> Result<Arrivals, AllocError> {
+        let entries = Vec::with_capacity(heap, slots)?;
+        Ok(Arrivals { entries })
+    }
+
+    #[tactic(auto, using(crate::specs::Bags::length_sorted))]
+    fn count(&self) -> usize {
+        self.entries.len()
+    }
+
+    #[tactic(auto, using(crate::proofs::Leasts::first_is))]
+    fn least(&self) -> Option<Entry> {
+        let at = least_at(&self.entries)?;
+        Some(self.entries[at])
+    }
+
+    #[tactic(auto, using(crate::specs::Bags::length_sorted, crate::specs::Bags::sorted_push))]
+    fn add(&mut self, entry: Entry) {
+        self.entries.push_reserved(entry);
+    }
+
+    #[tactic(auto, using(crate::proofs::Leasts::first_is, crate::proofs::Leasts::rest_is))]
+    fn take_least(&mut self) -> Option<Entry> {
+        let at = least_at(&self.entries)?;
+        Some(self.entries.remove(at))
+    }
+
+    fn clear(&mut self) {
+        self.entries.clear();
+    }
+}
+
+// Where the least entry stands.
+#[tactic(auto, using(crate::proofs::Reversed::before_by_fields))]
+fn least_at(entries: &[Entry]) -> Option<usize>
+    ensures none { IfNone result (length entries.now ≡ 0) }
+    ensures bound { IfSome result (λ i. i < length entries.now) }
+    ensures least { IfSome result (λ i. LeastTo entries.now i (length entries.now)) }
+{
+    let (at, _) = entries.iter().enumerate().min_by_key(|(_, entry)| **entry)?;
+    Some(at)
 }

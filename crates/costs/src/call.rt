@@ -1,4 +1,5 @@
-// The six calls of an open list, and their answers, as values.
+// The six calls of an open list, and their answers, as values: a closure is called on lists of one type,
+// and a `Call` on lists of two.
 use crate::entry::Entry;
 use crate::full::Full;
 

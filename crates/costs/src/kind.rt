@@ -37,5 +37,7 @@ pub trait CostKind {
 pub fn within_limit(first: u32, second: u32) -> bool
     ensures { result ≡ nat_le (first + second) join_limit }
 {
-    first <= JOIN_LIMIT && second <= JOIN_LIMIT - first
+    first
+        .checked_add(second)
+        .is_some_and(|sum| sum <= JOIN_LIMIT)
 }

@@ -21,11 +21,7 @@ impl CostKind for Sum {
     }
 
     fn join(first: u32, second: u32) -> Option<u32> {
-        if within_limit(first, second) {
-            Some(first + second)
-        } else {
-            None
-        }
+        within_limit(first, second).then(|| first + second)
     }
 
     fn passage_ceiling() -> u32 {

@@ -23,11 +23,8 @@ impl CostKind for Worst {
     }
 
     fn join(first: u32, second: u32) -> Option<u32> {
-        if Self::is_value(first) && Self::is_value(second) {
-            Some(first.max(second))
-        } else {
-            None
-        }
+        let both = Self::is_value(first) && Self::is_value(second);
+        both.then_some(first.max(second))
     }
 
     fn passage_ceiling() -> u32 {
