@@ -1,5 +1,5 @@
 -- How the questions of a call are taken one part after another. Assumes nothing.
-use Rattle.std.proofs.Common.{◌≡◌, ℕ, zero, suc, ◌+◌, ◌-◌, ◌<◌, ◌≤◌, Bool, true, false, cond, List, [], ◌∷◌, ◌++◌, IsErrAnd, Some, None, Ok, Err, Option, Result, sym, refl, ap, ◌∙◌, arith}
+use Rattle.std.proofs.Common.{◌≡◌, ℕ, zero, suc, ◌+◌, ◌-◌, ◌<◌, ◌≤◌, true, false, cond, List, [], ◌∷◌, ◌++◌, IsErrAnd, Some, None, Ok, Err, Option, Result, sym, refl, ap, ◌∙◌, zero-add, arith}
 use Rattle.survey.specs.declared.refusal.Refusal.{Refusal}
 use Rattle.survey.specs.Questions.{Question, refusal_by, first_no, unless, each_from, each, told}
 
@@ -21,7 +21,7 @@ module _ {T : Type 0} where
   -- what an accepted, and what a refused part says
   pub passed : (o : Option Refusal) (v w : T) → Ok w ≡ unless o v → (o ≡ None) × (w ≡ v)
   passed None v w e = (refl, cc)
-  passed (Some r) v w e = absurd (let z : ◌≡◌ {A = ℕ} 0 1 = cc in omega arith)
+  passed (Some r) v w e = absurd cc
 
   pub stopped : (o : Option Refusal) (v : T) (r : Refusal) → Err r ≡ unless o v → o ≡ Some r
   stopped None v r e = cc
@@ -70,7 +70,7 @@ pub none_yes : (qs : List Question) → first_no qs ≡ None → Yes qs
 none_yes [] e = tt
 none_yes (q ∷ qs) e =
     elim q.answer as (λ b. cond b (first_no qs) (Some (refusal_by q)) ≡ None → (b ≡ true) × Yes qs)
-    [ true ↦ λ h. (refl, none_yes qs h) | false ↦ λ h. absurd (let z : ◌≡◌ {A = ℕ} 0 1 = cc in omega arith) ] e
+    [ true ↦ λ h. (refl, none_yes qs h) | false ↦ λ h. absurd cc ] e
 
 pub none_each : (n k i : ℕ) (qs : ℕ → List Question) → first_no (each_from k n qs) ≡ None → i < n → first_no (qs (k + i)) ≡ None
 none_each zero k i qs e h = absurd (omega arith)
@@ -80,7 +80,6 @@ none_each (suc n) k (suc i) qs e h =
     let same : k + suc i ≡ suc k + i = omega arith in
     ap (λ (j : ℕ). first_no (qs j)) same ∙ none_each n (suc k) i qs (none_parts (qs k) (each_from (suc k) n qs) e).1 (omega arith)
 
--- a call with one question is refused by it
-pub refused_here : {T : Type 0} (b : Bool) (q r : Refusal) (v : T) → Err r ≡ unless (cond b None (Some q)) v → b ≡ false
-refused_here true q r v e = absurd (let z : ◌≡◌ {A = ℕ} 0 1 = cc in omega arith)
-refused_here false q r v e = refl
+-- the same of a row of questions
+pub yes_at : (n i : ℕ) (qs : ℕ → List Question) → first_no (each n qs) ≡ None → i < n → Yes (qs i)
+yes_at n i qs none below = none_yes (qs i) (ap (λ (k : ℕ). first_no (qs k)) (sym (zero-add i)) ∙ none_each n 0 i qs none below)

@@ -1,11 +1,12 @@
 -- A file that no question refuses is well formed. Assumes nothing.
-use Rattle.std.proofs.Common.{◌≡◌, ℕ, ◌<◌, ◌≤◌, true, false, ◌&&◌, eqb, ltb, leb, List, ◌++◌, length, is_some, Some, None, Option, sym, refl, ap, ◌∙◌, zero-add, arith, length-drop, length-take-le}
-use Rattle.std.proofs.lemmas.Bool.{and_parts, leb-true, ltb-true, eqb-true}
+use Rattle.std.proofs.Common.{◌≡◌, ℕ, ◌<◌, ◌≤◌, true, false, List, ◌++◌, length, is_some, Some, None, Option, refl, arith, length-drop, length-take-le}
+use Rattle.std.proofs.lemmas.Bool.Decides.{nat_tests}
+use Rattle.std.proofs.lemmas.Bool.{eqb-true}
 use Rattle.survey.specs.declared.refusal.Refusal.{Refusal}
 use Rattle.survey.specs.File.{places, passages, end_of_tables, label_offset, label_length, label_start, label_end, label_at, passage_in}
 use Rattle.survey.specs.Questions.{first_no, each}
 use Rattle.survey.specs.Reading.{header_questions, passage_questions, label_questions, end_questions, survey_questions, each_printable, WellFormed}
-use Rattle.survey.proofs.Asked.{none_parts, none_yes, none_each}
+use Rattle.survey.proofs.Asked.{none_parts, none_yes, yes_at}
 
 module _ (bs : List ℕ) (accepted : first_no (survey_questions bs) ≡ None) where
   parts : (first_no (header_questions bs) ≡ None) × ((first_no (each (passages bs) (passage_questions bs)) ≡ None) × ((first_no (each (places bs) (label_questions bs)) ≡ None) × (first_no (end_questions bs) ≡ None)))
@@ -15,25 +16,13 @@ module _ (bs : List ℕ) (accepted : first_no (survey_questions bs) ≡ None) wh
       (a.0, (b.0, none_parts (each (places bs) (label_questions bs)) (end_questions bs) b.1))
 
   header : (1 ≤ places bs) × (places bs ≤ 256) × (passages bs ≤ 1024) × (end_of_tables bs ≤ length bs)
-  header =
-      let yes_all = none_yes (header_questions bs) parts.0 in
-      let some = and_parts (leb 1 (places bs)) (leb (places bs) 256 && leb (passages bs) 1024) yes_all.1.1.0 in
-      let few = and_parts (leb (places bs) 256) (leb (passages bs) 1024) some.1 in
-      (leb-true _ _ some.0, leb-true _ _ few.0, leb-true _ _ few.1, leb-true _ _ yes_all.1.1.1.0)
+  header = let yes_all = none_yes (header_questions bs) parts.0 in grind (arith, nat_tests)
 
   ends : (n : ℕ) → n < passages bs → ((passage_in bs n).from < places bs) × ((passage_in bs n).to < places bs)
-  ends n h =
-      let q5 = none_yes (passage_questions bs n) (ap (λ (k : ℕ). first_no (passage_questions bs k)) (sym (zero-add n)) ∙ none_each (passages bs) 0 n (passage_questions bs) parts.1.0 h) in
-      let both = and_parts (ltb (passage_in bs n).from (places bs)) (ltb (passage_in bs n).to (places bs)) q5.0 in
-      (ltb-true _ _ both.0, ltb-true _ _ both.1)
+  ends n h = let q5 = yes_at (passages bs) n (passage_questions bs) parts.1.0 h in grind (arith, nat_tests)
 
   label : (p : ℕ) → p < places bs → (label_offset bs p ≡ label_start bs p) × (1 ≤ label_length bs p) × (label_length bs p ≤ 16) × (label_end bs p ≤ length bs) × (each_printable (label_at bs p) ≡ true)
-  label p h =
-      let q6 = none_yes (label_questions bs p) (ap (λ (k : ℕ). first_no (label_questions bs k)) (sym (zero-add p)) ∙ none_each (places bs) 0 p (label_questions bs) parts.1.1.0 h) in
-      let begins = and_parts (eqb (label_offset bs p) (label_start bs p)) (leb 1 (label_length bs p) && (leb (label_length bs p) 16 && leb (label_end bs p) (length bs))) q6.0 in
-      let some = and_parts (leb 1 (label_length bs p)) (leb (label_length bs p) 16 && leb (label_end bs p) (length bs)) begins.1 in
-      let short = and_parts (leb (label_length bs p) 16) (leb (label_end bs p) (length bs)) some.1 in
-      (eqb-true _ _ begins.0, leb-true _ _ some.0, leb-true _ _ short.0, leb-true _ _ short.1, q6.1.0)
+  label p h = let q6 = yes_at (places bs) p (label_questions bs) parts.1.1.0 h in grind (arith, nat_tests)
 
   label_length_is : (p : ℕ) → p < places bs → length (label_at bs p) ≡ label_length bs p
   label_length_is p h = let fits = (label p h).3 in length-take-le _ _ (rw length-drop (omega arith))
@@ -54,7 +43,7 @@ module _ (bs : List ℕ) (accepted : first_no (survey_questions bs) ≡ None) wh
     whole = eqb-true _ _ (none_yes (end_questions bs) parts.1.1.1).0;
   }
 
-is_none : (o : Option Refusal) → is_some o ≡ false → o ≡ None
+pub is_none : (o : Option Refusal) → is_some o ≡ false → o ≡ None
 is_none None e = refl
 is_none (Some r) e = cc
 

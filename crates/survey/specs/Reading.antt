@@ -5,6 +5,7 @@
 --   WellFormed bs           what an accepted file is, in words
 --   place_questions bs p    question 24, of each call that names a place
 use Rattle.std.specs.Prelude.{◌≡◌, ℕ, ◌<◌, ◌≤◌, Bool, true, ◌&&◌, List, [], ◌∷◌, ◌++◌, length, Result, ◌==◌, nat_le, nat_lt}
+use Rattle.std.specs.List.{list_all}
 use Rattle.survey.specs.declared.layout.Layout.{Layout}
 use Rattle.survey.specs.declared.refusal.Refusal.{Refusal}
 use Rattle.survey.specs.Questions.{Question, ask, each, decided}
@@ -14,8 +15,7 @@ abbrev pub printable : ℕ → Bool
 printable b = nat_le 0x20 b && nat_le b 0x7E
 
 abbrev pub each_printable : List ℕ → Bool
-each_printable [] = true
-each_printable (b ∷ bs) = printable b && each_printable bs
+each_printable bs = list_all printable bs
 
 abbrev pub header_questions : List ℕ → List Question
 header_questions bs =

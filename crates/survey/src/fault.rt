@@ -26,32 +26,25 @@ pub enum ReadFault {
     NoPlace,
 }
 
-impl ReadFault {
-    pub fn refusal(&self) -> Refusal
-        ensures { result ≡ read_refusal self.now }
-    {
-        match *self {
-            ReadFault::Short => Refusal { number: 1, spot: 0 },
-            ReadFault::Mark => Refusal { number: 2, spot: 0 },
-            ReadFault::Counts => Refusal { number: 3, spot: 0 },
-            ReadFault::Tables => Refusal { number: 4, spot: 0 },
-            ReadFault::Ends { passage } => Refusal {
-                number: 5,
-                spot: u32::from(passage),
-            },
-            ReadFault::Label { place } => Refusal {
-                number: 6,
-                spot: u32::from(place),
-            },
-            ReadFault::Characters { place } => Refusal {
-                number: 7,
-                spot: u32::from(place),
-            },
-            ReadFault::Trailing => Refusal { number: 8, spot: 0 },
-            ReadFault::NoPlace => Refusal {
-                number: 24,
-                spot: 0,
-            },
+// The numbers are those that are printed.
+impl From<ReadFault> for Refusal {
+    ghost from_gives = { λ fault refusal. refusal ≡ read_refusal fault };
+
+    fn from(fault: ReadFault) -> Refusal {
+        let (number, spot) = match fault {
+            ReadFault::Short => (1, 0),
+            ReadFault::Mark => (2, 0),
+            ReadFault::Counts => (3, 0),
+            ReadFault::Tables => (4, 0),
+            ReadFault::Ends { passage } => (5, passage),
+            ReadFault::Label { place } => (6, place),
+            ReadFault::Characters { place } => (7, place),
+            ReadFault::Trailing => (8, 0),
+            ReadFault::NoPlace => (24, 0),
+        };
+        Refusal {
+            number,
+            spot: u32::from(spot),
         }
     }
 }

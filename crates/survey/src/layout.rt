@@ -1,7 +1,7 @@
 // What the header of a survey says, and where its tables stand.
 ghost use Rattle.std.specs.Prelude.{◌≡◌, ◌+◌, ◌*◌};
 
-const HEADER: usize = 8;
+pub(crate) const HEADER: usize = 8;
 
 const PAIR: usize = 4;
 

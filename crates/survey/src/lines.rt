@@ -12,6 +12,7 @@ use crate::fault::ReadFault;
 use crate::view::Survey;
 
 impl Survey<'_> {
+    // Into lent lines, since the public promise is about what they hold, after a refused call too.
     pub fn lines(
         &self,
         place: u16,
@@ -36,14 +37,14 @@ fn line_of(text: &[u8]) -> [u8; 16]
     ensures { result ≡ padded text.now }
 {
     let mut line = [b' '; 16];
-    line[0..text.len()].copy_from_slice(text);
+    line[..text.len()].copy_from_slice(text);
     line
 }
 
 fn minutes_line(minutes: u32) -> [u8; 16]
     ensures { result ≡ padded (decimal minutes ++ codes " min") }
 {
-    let number = Decimal::of(minutes);
+    let number = Decimal::from(minutes);
     let digits = number.as_bytes();
     let len = digits.len();
     let mut line = line_of(digits);

@@ -8,12 +8,13 @@ ghost use Rattle.survey.specs.View.{file, Lowest};
 
 use crate::fault::ReadFault;
 use crate::layout::{Layout, pair_at};
-use crate::number::{four_at, two_at};
+use crate::number::{four_at, twos_at};
 use crate::passage::Passage;
 use crate::view::Survey;
 
 impl<'a> Survey<'a> {
-    // The view of bytes that `Layout::check` accepted with this layout.
+    // The view of bytes that `Layout::check` accepted with this layout. It asks for that check since it makes none of
+    // its own: so a caller who keeps the layout views the bytes again at no cost.
     pub fn new(bytes: &'a [u8], layout: Layout) -> Survey<'a>
         requires sound { checked bytes.now ≡ Ok layout }
         ensures { file result ≡ bytes.now }
@@ -49,9 +50,10 @@ impl<'a> Survey<'a> {
             return None;
         }
         let at = self.layout.passage_at(number);
+        let (from, to) = twos_at(self.bytes, at);
         Some(Passage {
-            from: two_at(self.bytes, at),
-            to: two_at(self.bytes, at + 2),
+            from,
+            to,
             leading: four_at(self.bytes, at + 4),
             second: four_at(self.bytes, at + 8),
         })
@@ -71,21 +73,15 @@ impl<'a> Survey<'a> {
     pub fn find(&self, label: &[u8]) -> Option<u16>
         ensures { Lowest (file self.now) label.now result }
     {
-        for place in 0..self.layout.places {
-            if self.label_bytes(place) == label {
-                return Some(place);
-            }
-        }
-        None
+        (0..self.layout.places).find(|&place| self.label_bytes(place) == label)
     }
 
     fn label_bytes(&self, place: u16) -> &'a [u8]
         requires { place < places (file self.now) }
         ensures { result.now ≡ label_at (file self.now) place }
     {
-        let pair = pair_at(place);
-        let offset = usize::from(two_at(self.bytes, pair));
-        let len = usize::from(two_at(self.bytes, pair + 2));
-        &self.bytes[offset..offset + len]
+        let (offset, len) = twos_at(self.bytes, pair_at(place));
+        let offset = usize::from(offset);
+        &self.bytes[offset..offset + usize::from(len)]
     }
 }

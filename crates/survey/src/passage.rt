@@ -1,6 +1,6 @@
 // A passage of a survey, which leads one way.
 
-#[derive(Clone, Copy, Debug, PartialEq, Eq)]
+#[derive(Clone, Copy, Debug, PartialEq, Eq, Default)]
 pub struct Passage {
     pub from: u16,
     pub to: u16,

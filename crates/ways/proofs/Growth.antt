@@ -1,8 +1,8 @@
 -- How a text grows part by part. Assumes nothing.
-use Rattle.std.proofs.Common.{◌≡◌, ℕ, ◌+◌, ◌<◌, true, false, List, [], ◌∷◌, ◌++◌, length, get_or, take, drop, is_err, Ok, Err, vec_items, Result, Vec, sym, refl, ap, ◌∙◌, append_assoc, append-nil, arith, length-append, take-append-drop}
+use Rattle.std.proofs.Common.{◌≡◌, ℕ, ◌+◌, ◌<◌, List, [], ◌++◌, length, get_or, take, drop, Ok, Err, vec_items, Result, Vec, sym, ap, ◌∙◌, append_assoc, append-nil, arith, length-append, take-append-drop}
 use Rattle.ways.specs.declared.text.Part.{Part}
-use Rattle.std.proofs.lemmas.List.{take_more}
-use Rattle.std.proofs.lemmas.Bool.{both_ways}
+use Rattle.std.proofs.lemmas.List.{take_more, flat_map_more}
+use Rattle.std.proofs.lemmas.List.Concat.{flat_map-append}
 use Rattle.ways.specs.Text.{written, written_all, Grown, Lacks, Adds}
 
 module _ {Z : Type 0} {a b c : Vec ℕ Z} where
@@ -24,23 +24,12 @@ module _ {Z : Type 0} {a : Vec ℕ Z} where
   pub lacks_more : (xs ys : List ℕ) → Lacks a xs → Lacks a (xs ++ ys)
   lacks_more xs ys short = record { full = omega (arith, length-append xs ys, short.full) }
 
-pub written_append : (ps qs : List Part) → written_all (ps ++ qs) ≡ written_all ps ++ written_all qs
-written_append [] qs = refl
-written_append (p ∷ ps) qs = ap (λ (l : List ℕ). written p ++ l) (written_append ps qs) ∙ sym (append_assoc (written p) (written_all ps) (written_all qs))
-
 -- the parts before, at and behind an index
 pub written_at : (ps : List Part) (i : ℕ) (d : Part) → i < length ps → written_all (take (i + 1) ps) ≡ written_all (take i ps) ++ written (get_or ps i d)
-written_at ps i d below =
-    ap written_all (take_more ps i d below) ∙ written_append (take i ps) (get_or ps i d ∷ []) ∙
-    ap (λ (l : List ℕ). written_all (take i ps) ++ l) (append-nil (written (get_or ps i d)))
+written_at ps i d below = ap written_all (take_more ps i d below) ∙ sym (flat_map_more written [] (take i ps) (get_or ps i d))
 
 pub written_split : (ps : List Part) (i : ℕ) → written_all ps ≡ written_all (take i ps) ++ written_all (drop i ps)
-written_split ps i = ap written_all (sym (take-append-drop i ps)) ∙ written_append (take i ps) (drop i ps)
-
--- what the exit of a `?` says of the text
-pub exit_lacks : {Z T E : Type 0} {a : Vec ℕ Z} {bs : List ℕ} (b : Vec ℕ Z) (r : Result T E) → is_err r ≡ true → Lacks a bs → Adds a b bs r
-exit_lacks b (Ok x) e short = absurd (both_ways false refl e)
-exit_lacks b (Err y) e short = short
+written_split ps i = ap written_all (sym (take-append-drop i ps)) ∙ flat_map-append written (take i ps) (drop i ps)
 
 pub adds_then : {Z T E : Type 0} {a b : Vec ℕ Z} (c : Vec ℕ Z) (xs ys : List ℕ) (r : Result T E) → Grown a b xs → Adds b c ys r → Adds a c (xs ++ ys) r
 adds_then c xs ys (Ok x) first next = grown_then xs ys first next

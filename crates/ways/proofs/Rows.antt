@@ -1,29 +1,25 @@
 -- The lines of the places, one after another. Assumes nothing.
-use Rattle.std.proofs.Common.{◌≡◌, ℕ, zero, suc, ◌+◌, ◌-◌, ◌<◌, List, ◌++◌, codes, sym, ap, ◌∙◌, append_assoc, append-nil, arith}
-use Rattle.ways.specs.Description.{place_line, place_lines_from}
+use Rattle.std.proofs.Common.{◌≡◌, ℕ, ◌+◌, ◌<◌, List, [], ◌∷◌, ◌++◌, map, take, drop, codes, sym, ap, ◌∙◌, append-nil, arith, take-append-drop}
+use Rattle.std.specs.List.{concat, range_with_len}
+use Rattle.std.proofs.lemmas.List.Folds.{concat-append}
+use Rattle.std.proofs.lemmas.List.FromFn.{map-range_with_len_more, take-map-range_with_len}
+use Rattle.ways.specs.Description.{place_line}
 
-rows_append : (bs : List ℕ) (k n m : ℕ) → place_lines_from bs k (n + m) ≡ place_lines_from bs k n ++ place_lines_from bs (k + n) m
-rows_append bs k zero m =
-    let none : 0 + m ≡ m = omega arith in
-    let same : k ≡ k + 0 = omega arith in
-    ap (place_lines_from bs k) none ∙ ap (λ (j : ℕ). place_lines_from bs j m) same
-rows_append bs k (suc n) m =
-    let next : suc n + m ≡ suc (n + m) = omega arith in
-    let same : suc k + n ≡ k + suc n = omega arith in
-    ap (place_lines_from bs k) next ∙ ap (λ (l : List ℕ). place_line (codes "place ") bs k ++ l) (rows_append bs (suc k) n m) ∙
-    sym (append_assoc (place_line (codes "place ") bs k) (place_lines_from bs (suc k) n) (place_lines_from bs (suc k + n) m)) ∙
-    ap (λ (j : ℕ). place_lines_from bs k (suc n) ++ place_lines_from bs j m) same
+module _ (bs : List ℕ) where
+  abbrev pub row : ℕ → List ℕ
+  row i = place_line (codes "place ") bs i
 
-pub rows_more : (bs : List ℕ) (i : ℕ) → place_lines_from bs 0 (i + 1) ≡ place_lines_from bs 0 i ++ place_line (codes "place ") bs i
-rows_more bs i =
-    let same : 0 + i ≡ i = omega arith in
-    rows_append bs 0 i 1 ∙ ap (λ (l : List ℕ). place_lines_from bs 0 i ++ l) (append-nil _) ∙
-    ap (λ (j : ℕ). place_lines_from bs 0 i ++ place_line (codes "place ") bs j) same
+  abbrev pub rows : ℕ → List ℕ
+  rows n = concat (map row (range_with_len 0 n))
 
-pub rows_split : (bs : List ℕ) (i n : ℕ) → i < n → place_lines_from bs 0 n ≡ (place_lines_from bs 0 i ++ place_line (codes "place ") bs i) ++ place_lines_from bs (i + 1) (n - (i + 1))
-rows_split bs i n below =
-    let parts : n ≡ (i + 1) + (n - (i + 1)) = omega arith in
-    let same : 0 + (i + 1) ≡ i + 1 = omega arith in
-    ap (place_lines_from bs 0) parts ∙ rows_append bs 0 (i + 1) (n - (i + 1)) ∙
-    ap (λ (l : List ℕ). l ++ place_lines_from bs (0 + (i + 1)) (n - (i + 1))) (rows_more bs i) ∙
-    ap (λ (j : ℕ). (place_lines_from bs 0 i ++ place_line (codes "place ") bs i) ++ place_lines_from bs j (n - (i + 1))) same
+  pub rows_more : (i : ℕ) → rows (i + 1) ≡ rows i ++ row i
+  rows_more i =
+      ap concat (map-range_with_len_more row 0 i i (omega arith)) ∙ concat-append (map row (range_with_len 0 i)) (row i ∷ []) ∙
+      ap (λ (l : List ℕ). rows i ++ l) (append-nil (row i))
+
+  -- the rows up to one, and those behind it
+  pub rows_split : (i n : ℕ) → i < n → rows n ≡ (rows i ++ row i) ++ concat (drop (i + 1) (map row (range_with_len 0 n)))
+  rows_split i n below =
+      let all = map row (range_with_len 0 n) in
+      ap concat (sym (take-append-drop (i + 1) all)) ∙ concat-append (take (i + 1) all) (drop (i + 1) all) ∙
+      ap (λ (l : List ℕ). l ++ concat (drop (i + 1) all)) (ap concat (take-map-range_with_len row 0 n (i + 1) (omega arith)) ∙ rows_more i)

@@ -5,8 +5,8 @@
 --   repeater_lines bs p      what a repeater shows for the place, with its edges
 --   description_of bs s g    all of these, for the survey bs, a start and a goal
 --   description input        the same, for what the input holds
-use Rattle.std.specs.Prelude.{ℕ, zero, suc, cond, List, [], ◌∷◌, ◌++◌, codes, decimal, nat_lt}
-use Rattle.std.specs.List.{concat}
+use Rattle.std.specs.Prelude.{ℕ, cond, List, [], ◌∷◌, ◌++◌, map, codes, decimal, nat_lt}
+use Rattle.std.specs.List.{concat, range_with_len}
 use Rattle.survey.specs.File.{byte, places, passages, label_at}
 use Rattle.survey.specs.Lines.{line_one, line_two}
 use Rattle.ways.specs.Input.{survey_of, start_of, goal_of}
@@ -27,12 +27,8 @@ label_shown bs p = cond (nat_lt p (places bs)) (label_at bs p) (codes "no such p
 abbrev pub place_line : List ℕ → List ℕ → ℕ → List ℕ
 place_line word bs p = concat (word ∷ decimal p ∷ codes " " ∷ label_shown bs p ∷ newline ∷ [])
 
-abbrev pub place_lines_from : List ℕ → ℕ → ℕ → List ℕ
-place_lines_from bs k zero = []
-place_lines_from bs k (suc n) = place_line (codes "place ") bs k ++ place_lines_from bs (suc k) n
-
 abbrev pub place_lines : List ℕ → List ℕ
-place_lines bs = place_lines_from bs 0 (places bs)
+place_lines bs = concat (map (place_line (codes "place ") bs) (range_with_len 0 (places bs)))
 
 abbrev pub repeater_lines : List ℕ → ℕ → List ℕ
 repeater_lines bs p = cond (nat_lt p (places bs)) (concat (codes "|" ∷ line_one bs p ∷ codes "|" ∷ newline ∷ codes "|" ∷ line_two 0 ∷ codes "|" ∷ newline ∷ [])) []

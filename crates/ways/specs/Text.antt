@@ -6,6 +6,7 @@
 --   Lacks a bs           a has no room for bs behind it
 --   Adds a b bs r        by r, bs were added to a, which gave b, or a lacked room for them
 use Rattle.std.specs.Prelude.{◌≡◌, ℕ, ◌+◌, ◌<◌, ◌≤◌, Bool, cond, ◌&&◌, List, [], ◌∷◌, ◌++◌, length, vec_items, vec_len, vec_capacity, decimal, Result, Vec, MatchResult, nat_le}
+use Rattle.std.specs.List.{flat_map}
 use Rattle.ways.specs.declared.text.Part.{Part}
 use Rattle.ways.specs.declared.text.Part.TheVariants.{Text, Number, Letter}
 
@@ -21,8 +22,7 @@ written (Number n) = decimal n
 written (Letter b) = letter_text b
 
 abbrev pub written_all : List Part → List ℕ
-written_all [] = []
-written_all (p ∷ ps) = written p ++ written_all ps
+written_all ps = flat_map written ps
 
 module _ {Z : Type 0} where
   pub record Grown (a b : Vec ℕ Z) (bs : List ℕ) : Type 0 where

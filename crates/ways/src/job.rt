@@ -1,9 +1,8 @@
 // The job: from the bytes of an input to the text about it.
 ghost use Rattle.ways.specs.Job.{Answers};
 
-use crate::describe::add_description;
+use crate::describe::Description;
 use crate::fault::JobFault;
-use survey::layout::Layout;
 use survey::view::Survey;
 
 // Adds the description of the hotel to the text, which has no less room afterwards.
@@ -13,10 +12,11 @@ pub fn describe(input: &[u8], mut text: Vec<u8>) -> Result<Vec<u8>, JobFault>
     let [s0, s1, g0, g1, bytes @ ..] = input else {
         return Err(JobFault::Short);
     };
-    let start = u16::from_le_bytes([*s0, *s1]);
-    let goal = u16::from_le_bytes([*g0, *g1]);
-    let layout = Layout::check(bytes)?;
-    let survey = Survey::new(bytes, layout);
-    add_description(&mut text, &survey, start, goal)?;
+    let description = Description {
+        survey: Survey::try_from(bytes)?,
+        start: u16::from_le_bytes([*s0, *s1]),
+        goal: u16::from_le_bytes([*g0, *g1]),
+    };
+    description.add_to(&mut text)?;
     Ok(text)
 }

@@ -7,7 +7,8 @@ use std::fmt;
 use survey::refusal::Refusal;
 
 impl JobFault {
-    // The refusal that the fault stands for; want of memory is none.
+    // The refusal that the fault stands for, with the number that is printed. Want of memory is none: an `Option` says so more
+    // plainly than the error of a `TryFrom`.
     pub fn refusal(&self) -> Option<Refusal>
         ensures { result ≡ job_refusal self.now }
     {
@@ -16,7 +17,7 @@ impl JobFault {
                 number: 25,
                 spot: 0,
             }),
-            JobFault::Reader(fault) => Some(fault.refusal()),
+            JobFault::Reader(fault) => Some(fault.into()),
             JobFault::Memory => None,
         }
     }
@@ -36,12 +37,10 @@ impl fmt::Display for JobFault {
     ghost output = { λ f. Some (fault_line f) };
 
     fn fmt<W: fmt::Write>(&self, f: &mut fmt::Formatter<W>) -> fmt::Result {
-        let Some(refusal) = self.refusal() else {
+        let Some(Refusal { number, spot }) = self.refusal() else {
             return write!(f, "out of memory");
         };
         let layer = self.layer();
-        let number = refusal.number;
-        let spot = refusal.spot;
         write!(f, "refused {layer} {number} {spot}")
     }
 }

@@ -8,10 +8,9 @@ const WORKED: &[u8; 107] =
 
 // The number and the spot of the refusal, or 0 and 0.
 fn told(fault: JobFault) -> (u32, u32) {
-    match fault.refusal() {
-        Some(refusal) => (refusal.number, refusal.spot),
-        None => (0, 0),
-    }
+    fault
+        .refusal()
+        .map_or((0, 0), |refusal| (refusal.number, refusal.spot))
 }
 
 #[test]
@@ -21,10 +20,8 @@ fn refusals(rt: HostRuntime) -> Result<(), Fail> {
         let Some(input) = worked.get(0..len) else {
             return Err(Fail::new("too long"));
         };
-        match describe(input, Vec::new(rt.alloc())) {
-            Ok(_) => return Err(Fail::new("accepted")),
-            Err(fault) => assert_eq!(rt; told(fault), (number, spot)),
-        }
+        let fault = describe(input, Vec::new(rt.alloc())).err();
+        assert_eq!(rt; fault.map(told), Some((number, spot)));
     }
     Ok(())
 }
@@ -34,11 +31,9 @@ fn no_such_ends(rt: HostRuntime) -> Result<(), Fail> {
     let input = b"\x01\x00\x02\x01F\x01\x01\x00\x00\x00 \x0a\x0c\x00\x01\x00a";
     let lines =
         b"places 1\npassages 0\nletters #32 #10\nplace 0 a\nstart 1 no such place\ngoal 258 no such place\n";
-    match describe(input, Vec::new(rt.alloc())) {
-        Ok(text) => {
-            assert!(rt; text.as_slice() == lines.as_slice());
-            Ok(())
-        },
-        Err(_) => Err(Fail::new("refused")),
-    }
+    let Ok(text) = describe(input, Vec::new(rt.alloc())) else {
+        return Err(Fail::new("refused"));
+    };
+    assert!(rt; text.as_slice() == lines.as_slice());
+    Ok(())
 }

@@ -1,10 +1,12 @@
 // Text that is written part by part.
 ghost use Rattle.std.specs.Prelude.{◌≡◌};
-ghost use Rattle.ways.specs.Text.{Adds, letter_text, visible, written, written_all};
+ghost use Rattle.ways.specs.Text.{Adds, letter_text, written, written_all};
 
 use std::alloc::AllocError;
 use survey::decimal::Decimal;
 
+// A part of a text. Parts are not written by `write!`: std says nothing of an error of `write!`, nor of the room that it
+// leaves, and a job promises that memory is wanting only where its text has no room.
 #[derive(Clone, Copy)]
 pub enum Part<'a> {
     Text(&'a [u8]),
@@ -18,39 +20,29 @@ pub fn add_all(text: &mut Vec<u8>, parts: &[Part]) -> Result<(), AllocError>
     ensures { Adds text.old text.new (written_all parts.now) result }
 {
     for part in parts {
-        add_part(text, *part)?;
+        part.add_to(text)?;
     }
     Ok(())
 }
 
-fn add_part(text: &mut Vec<u8>, part: Part) -> Result<(), AllocError>
-    ensures { Adds text.old text.new (written part.entry) result }
-{
-    match part {
-        Part::Text(bytes) => add_bytes(text, bytes),
-        Part::Number(n) => add_bytes(text, Decimal::of(n).as_bytes()),
-        Part::Letter(letter) => add_letter(text, letter),
+impl Part<'_> {
+    fn add_to(&self, text: &mut Vec<u8>) -> Result<(), AllocError>
+        ensures { Adds text.old text.new (written self.now) result }
+    {
+        match *self {
+            Part::Text(bytes) => text.extend_from_slice(bytes),
+            Part::Number(n) => text.extend_from_slice(Decimal::from(n).as_bytes()),
+            Part::Letter(letter) => add_letter(text, letter),
+        }
     }
 }
 
 fn add_letter(text: &mut Vec<u8>, letter: u8) -> Result<(), AllocError>
     ensures { Adds text.old text.new (letter_text letter) result }
 {
-    if is_visible(letter) {
-        return add_bytes(text, &[letter]);
+    if letter.is_ascii_graphic() {
+        return text.extend_from_slice(&[letter]);
     }
-    add_bytes(text, b"#")?;
-    add_bytes(text, Decimal::of(u32::from(letter)).as_bytes())
-}
-
-fn is_visible(letter: u8) -> bool
-    ensures { result ≡ visible letter }
-{
-    letter >= 0x21 && letter <= 0x7E
-}
-
-fn add_bytes(text: &mut Vec<u8>, bytes: &[u8]) -> Result<(), AllocError>
-    ensures { Adds text.old text.new bytes.now result }
-{
-    text.extend_from_slice(bytes)
+    text.extend_from_slice(b"#")?;
+    text.extend_from_slice(Decimal::from(u32::from(letter)).as_bytes())
 }

@@ -1,16 +1,18 @@
-use Rattle.std.proofs.Common.{sym, ap, ◌∙◌, arith, below_more}
-use Rattle.std.proofs.lemmas.Slice.Eq.{slice_eq-Decides}
-use Rattle.std.proofs.lemmas.Bool.Decides.{not_from_Decides, Decides-eqb}
+use Rattle.std.proofs.Common.{◌≡◌, ℕ, ◌<◌, ◌≤◌, ◌≢◌, List, Some, None, Option, MatchOption, ap, arith, rules, tests}
+use Rattle.std.proofs.lemmas.Iterator.{first_from_Range}
 use Rattle.survey.specs.declared.layout.Layout.{Layout}
+use Rattle.survey.specs.File.{label_at, places}
+use Rattle.survey.specs.View.{file, Lowest}
 use Rattle.survey.proofs.view.Survey.find.Goals as goal
 
-pub returns-then-eq : goal.returns-then-eq
-returns-then-eq c =
-    let many = ap (λ (l : Layout). l.places) c.args.self.now.header in
-    let same = (slice_eq-Decides Decides-eqb _ _ _ c.eq.ensures).0 c.if-eq.true in
-    (omega arith, sym c.label_bytes.ensures ∙ same, c.loop-place.invariant)
+-- what `find` over a range says, which begins at 0
+lowest : (bs l : List ℕ) (n : ℕ) (r : Option ℕ) → n ≡ places bs → MatchOption r ((k : ℕ) → 0 ≤ k → k < n → label_at bs k ≢ l) (λ i. (0 ≤ i) × (i < n) × (label_at bs i ≡ l) × ((k : ℕ) → 0 ≤ k → k < i → label_at bs k ≢ l)) → Lowest bs l r
+lowest bs l n None many none = λ k below. none k (omega arith) (omega arith)
+lowest bs l n (Some i) many found = (omega (arith, found.1), found.2, λ k below. found.3 k (omega arith) below)
 
-pub loop-place-preserved : goal.loop-place-preserved
-loop-place-preserved c =
-    below_more _ _ c.loop-place.invariant
-    (λ same. not_from_Decides _ (slice_eq-Decides Decides-eqb _ _ _ c.eq.ensures) c.if-eq.false (c.label_bytes.ensures ∙ same))
+pub returns : goal.returns
+returns c =
+    let bs = file c.args.self.now in
+    let l = c.args.label.now in
+    lowest bs l _ c.find.result (ap (λ (h : Layout). h.places) c.args.self.now.header)
+    (first_from_Range _ _ _ _ (λ p. label_at bs p ≡ l) (λ p. label_at bs p ≢ l) c.find.ensures.ran (λ x q k. search (rules, tests)) (λ x q k. search (rules, tests)))
