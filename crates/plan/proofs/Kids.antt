@@ -1,9 +1,10 @@
 -- The children of a record, passage by passage. Assumes nothing.
 --   rest_of o      the children by the passages from the number o on
-use Rattle.std.proofs.Common.{◌≡◌, ℕ, zero, suc, ◌+◌, ◌-◌, ◌<◌, ◌≤◌, Bool, true, false, cond, not, ◌&&◌, ◌||◌, eqb, List, [], ◌∷◌, ◌++◌, length, get_or, take, drop, is_some, Some, None, Option, sym, refl, ap, ◌∙◌, subst, arith, drop-cons}
-use Rattle.std.proofs.lemmas.List.{get_or-set_same, get_or-set_other, get_or-take, get_or-map, length-map, length-take-le, drop_all, append-nil, append_assoc, take_more_set, length-set}
+use Rattle.std.proofs.Common.{◌≡◌, ℕ, zero, suc, ◌+◌, ◌-◌, ◌<◌, ◌≤◌, Bool, true, false, cond, not, ◌&&◌, ◌||◌, eqb, List, [], ◌∷◌, ◌++◌, length, get_or, drop, is_some, Some, None, Option, sym, refl, ap, ◌∙◌, subst, arith, drop-cons, length-append}
+use Rattle.std.proofs.lemmas.List.{get_or-set_same, get_or-set_other, length-map, drop_all, append_assoc}
 use Rattle.std.proofs.lemmas.Bool.{cond-true, cond-false, cond_both, and_left, and_right, and_from, eq-eqb, ne_eqb, le-leb, or_left, not_from_true, not_from_false, both_ways}
 use Rattle.costs.specs.Kinds.{Kind}
+use Rattle.costs.specs.declared.kind.CostKind as kinds
 use Rattle.costs.specs.Bag.{inserted}
 use Rattle.costs.specs.Order.{entry_of}
 use Rattle.costs.specs.declared.entry.Entry.{Entry}
@@ -11,109 +12,17 @@ use Rattle.costs.specs.Bags.{length_inserted}
 use Rattle.survey.specs.declared.passage.Passage.{Passage}
 use Rattle.plan.specs.declared.book.Book.{Book}
 use Rattle.plan.specs.declared.children.Child.{Child}
+use Rattle.plan.specs.declared.parent.Parent.{Parent}
 use Rattle.plan.specs.declared.place.Place.{Place}
 use Rattle.plan.specs.declared.record.Record.{Record}
-use Rattle.plan.specs.declared.state.Ends.{Ends}
 use Rattle.plan.specs.declared.table.Table.{Table}
 use Rattle.plan.specs.Ways.{no_passage}
-use Rattle.plan.specs.Rules.{Task, at_most, best_at, useless, child_along, children_from, second_estimate, lead_estimate, put_all}
-use Rattle.plan.specs.Joins.{Joined, ChildJoins}
-use Rattle.plan.specs.Views.{no_place, place_at, each_place, passages_in, NoneFrom, FirstFrom}
-use Rattle.plan.specs.Children.{aim_in, bests_with, child_with, child_answer, kids_of, Opens, with_record, Added}
-
--- what f reads off a place, by its number
-pub each_at : {X : Type 0} (f : Place → X) (d : X) (t : Table) (s : ℕ) → t.place_count ≤ length t.places → s < t.place_count → get_or (each_place f t) s d ≡ f (place_at t s)
-each_at f d t s room inside =
-    get_or-map f (take t.place_count t.places) s no_place d (omega (arith, length-take-le t.place_count t.places room)) ∙ ap f (get_or-take t.place_count t.places s no_place inside)
-
-pub each_length : {X : Type 0} (f : Place → X) (t : Table) → t.place_count ≤ length t.places → length (each_place f t) ≡ t.place_count
-each_length f t room = length-map (take t.place_count t.places) f ∙ length-take-le t.place_count t.places room
-
-module _ (k m : Kind) (t : Table) (ends : Ends) (r : Record) (opens : Opens k m t ends r) where
-  abbrev aim : Task
-  aim = aim_in k m t ends
-
-  room : t.place_count ≤ length t.places
-  room = omega (arith, opens.places, opens.building.few_places)
-
-  pub many : length (passages_in t) ≡ t.passage_count
-  many = length-take-le t.passage_count t.passages (omega (arith, opens.passages, opens.some_passages))
-
-  best_of : (s : ℕ) → s < t.place_count → best_at (each_place (λ q. q.best) t) s ≡ (place_at t s).best
-  best_of s inside = each_at (λ q. q.best) None t s room inside
-
-  module _ (number n : ℕ) (inside : n < t.passage_count) (p : Passage) (is : p ≡ get_or (passages_in t) n no_passage) where
-    pub to_place : p.to < t.place_count
-    to_place = omega (arith, ap (λ (q : Passage). q.to) is, opens.building.to_place n (omega (arith, many)))
-
-    joins : ChildJoins aim r n
-    joins = opens.joins n (omega (arith, many))
-
-    pub join_leading : Joined k r.leading p.leading
-    join_leading = subst (λ (q : Passage). Joined k r.leading q.leading) (sym is) joins.leading
-
-    pub join_second : Joined m r.second p.second
-    join_second = subst (λ (q : Passage). Joined m r.second q.second) (sym is) joins.second
-
-    -- the child itself, from the totals that were joined
-    module _ (a b : ℕ) (a_is : a ≡ k.joined r.leading p.leading) (b_is : b ≡ m.joined r.second p.second) where
-      pub child_is : record { place = p.to; leading = a; second = b; parent = Some number; passage = n } ≡ child_along aim number r n
-      child_is = λ i. record { place = (is i).to; leading = (a_is ∙ ap (λ (q : Passage). k.joined r.leading q.leading) is) i; second = (b_is ∙ ap (λ (q : Passage). m.joined r.second q.second) is) i; parent = Some number; passage = n }
-
-    module _ (b : ℕ) (b_is : b ≡ m.joined r.second p.second) (q : Place) (there : q ≡ place_at t p.to) where
-      second_forecast : q.second ≡ get_or (each_place (λ s. s.second) t) p.to 0
-      second_forecast = ap (λ (s : Place). s.second) there ∙ sym (each_at (λ s. s.second) 0 t p.to room to_place)
-
-      leading_forecast : q.leading ≡ get_or (each_place (λ s. s.leading) t) p.to 0
-      leading_forecast = ap (λ (s : Place). s.leading) there ∙ sym (each_at (λ s. s.leading) 0 t p.to room to_place)
-
-      second_child : b ≡ (child_along aim number r n).second
-      second_child = b_is ∙ ap (λ (x : Passage). m.joined r.second x.second) is
-
-      to_child : p.to ≡ (child_along aim number r n).place
-      to_child = ap (λ (x : Passage). x.to) is
-
-      pub second_estimate_is : m.joined b q.second ≡ second_estimate aim (child_along aim number r n)
-      second_estimate_is = λ i. m.joined (second_child i) ((second_forecast ∙ ap (λ (s : ℕ). get_or (each_place (λ x. x.second) t) s 0) to_child) i)
-
-      pub join_estimate : Joined m b q.second
-      join_estimate =
-          subst (λ (x : ℕ). Joined m x q.second) (sym second_child)
-          (subst (Joined m (child_along aim number r n).second) (sym (second_forecast ∙ ap (λ (s : ℕ). get_or (each_place (λ x. x.second) t) s 0) to_child)) (joins.estimates number).second)
-
-      module _ (a : ℕ) (a_is : a ≡ k.joined r.leading p.leading) where
-        leading_child : a ≡ (child_along aim number r n).leading
-        leading_child = a_is ∙ ap (λ (x : Passage). k.joined r.leading x.leading) is
-
-        pub leading_estimate_is : k.joined a q.leading ≡ lead_estimate aim (child_along aim number r n)
-        leading_estimate_is = λ i. k.joined (leading_child i) ((leading_forecast ∙ ap (λ (s : ℕ). get_or (each_place (λ x. x.leading) t) s 0) to_child) i)
-
-        pub join_leading_estimate : Joined k a q.leading
-        join_leading_estimate =
-            subst (λ (x : ℕ). Joined k x q.leading) (sym leading_child)
-            (subst (Joined k (child_along aim number r n).leading) (sym (leading_forecast ∙ ap (λ (s : ℕ). get_or (each_place (λ x. x.leading) t) s 0) to_child)) (joins.estimates number).leading)
-
-      -- a passage that leads back to the place of r is useless
-      pub useless_back : p.to ≡ r.place → useless aim (bests_with t r) (child_along aim number r n) ≡ true
-      useless_back back =
-          let here : best_at (bests_with t r) (child_along aim number r n).place ≡ Some r.second =
-          ap (best_at (bests_with t r)) (sym to_child ∙ back) ∙ get_or-set_same (each_place (λ s. s.best) t) r.place (Some r.second) None (omega (arith, each_length (λ s. s.best) t room, opens.place)) in
-          or_left _ _ (ap (λ (o : Option ℕ). at_most o (child_along aim number r n).second) here ∙ le-leb _ _ no_less)
-        where
-          no_less : r.second ≤ (child_along aim number r n).second
-          no_less =
-              let laws = opens.building.second_laws in
-              let fits = opens.building.second_fits n (omega (arith, many)) in
-              omega (arith, laws.zero_right r.second opens.second, laws.mono_right 0 _ r.second laws.zero_value fits.value opens.second (omega arith))
-
-      -- any other is useless by the bests in the table
-      pub useless_there : (p.to ≡ r.place → ⊥) → (e : ℕ) → e ≡ m.joined b q.second → useless aim (bests_with t r) (child_along aim number r n) ≡ (at_most (place_at t p.to).best b || at_most (place_at t ends.goal).best e)
-      useless_there other e e-is =
-          let at_place : best_at (bests_with t r) (child_along aim number r n).place ≡ (place_at t p.to).best =
-          ap (best_at (bests_with t r)) (sym to_child) ∙ get_or-set_other (each_place (λ s. s.best) t) r.place p.to (Some r.second) None other ∙ best_of p.to to_place in
-          let at_goal : best_at (bests_with t r) ends.goal ≡ (place_at t ends.goal).best =
-          get_or-set_other (each_place (λ s. s.best) t) r.place ends.goal (Some r.second) None (λ same. opens.elsewhere (sym same)) ∙ best_of ends.goal opens.goal in
-          (λ i. at_most (at_place i) (sym second_child i) || at_most (at_goal i) ((sym second_estimate_is ∙ sym e-is) i))
+use Rattle.plan.specs.Rules.{Task, at_most, best_at, useless, child_along, children_from, put_all}
+use Rattle.plan.specs.Joins.{Joined}
+use Rattle.plan.specs.Views.{place_at, link_at, each_place, passages_in, NoneFrom, FirstFrom}
+use Rattle.plan.proofs.Tables.{each_at, many_passages, link_is}
+use Rattle.plan.specs.Children.{bests_with, child_with, Opens, with_record}
+use Rattle.plan.specs.Parents.{aim, child, children}
 
 -- the passage o, if there is one, leaves the place s
 abbrev pub Leaving : List Passage → ℕ → Option ℕ → Type 0
@@ -128,10 +37,6 @@ to_go n (Some i) = suc n - i
 pub first_leaves : (ps : List Passage) (s n : ℕ) (o : Option ℕ) → FirstFrom ps s n o → Leaving ps s o
 first_leaves ps s n None h = tt
 first_leaves ps s n (Some j) h = (h.1, h.2)
-
-pub goes_on : (ps : List Passage) (s n : ℕ) (o : Option ℕ) → n < length ps → FirstFrom ps s (suc n) o → to_go (length ps) o < suc (length ps) - n
-goes_on ps s n None inside h = omega arith
-goes_on ps s n (Some j) inside h = omega (arith, h.0, h.1)
 
 -- no more children than passages
 pub few_children : (task : Task) (bests : List (Option ℕ)) (number : ℕ) (r : Record) (n : ℕ) (ps : List Passage) → length (children_from task bests number r n ps) ≤ length ps
@@ -179,11 +84,6 @@ module _ (task : Task) (bests : List (Option ℕ)) (number : ℕ) (r : Record) (
     pub rest_useful : useless task bests (child_along task number r n) ≡ false → rest_of (Some n) ≡ child_along task number r n ∷ rest_of o
     rest_useful e = one_on n inside ∙ cond-true _ _ _ (and_from _ _ (eq-eqb _ _ leaves) (not_from_false _ e)) ∙ ap (λ (rs : List Record). child_along task number r n ∷ rs) (rest_from (suc n) o (omega arith) next)
 
--- how far the children are counted
-pub record Counting (k m : Kind) (t : Table) (ends : Ends) (number : ℕ) (r : Record) (count : ℕ) (o : Option ℕ) : Type 0 where
-  pub counted : count + length (rest_of (aim_in k m t ends) (bests_with t r) number r (passages_in t) o) ≡ length (kids_of k m t ends number r)
-  pub leaving : Leaving (passages_in t) r.place o
-
 -- what an answer tells of the test behind it
 pub some_useful : {X : Type 0} (b : Bool) (x : X) → true ≡ is_some (cond b None (Some x)) → b ≡ false
 some_useful true x e = absurd (both_ways _ refl (sym e))
@@ -197,143 +97,207 @@ pub answer_child : {X : Type 0} (b : Bool) (x y : X) → Some x ≡ cond b None 
 answer_child true x y e = cc
 answer_child false x y e = cc
 
-module _ (k m : Kind) (t : Table) (ends : Ends) (r : Record) (opens : Opens k m t ends r) (number : ℕ) where
-  abbrev rest : Option ℕ → List Record
-  rest o = rest_of (aim_in k m t ends) (bests_with t r) number r (passages_in t) o
+module _ {A B : Type 0} {g : kinds.Ghosts A} {h : kinds.Ghosts B} (up : Parent A B g h) where
+  abbrev k : Kind
+  k = g.kind
 
-  pub counting_none : (p : Place) → p ≡ place_at t r.place → Counting k m t ends number r 0 p.first
-  counting_none p is =
-      let first = subst (λ (q : Place). FirstFrom (passages_in t) r.place 0 q.first) (sym is) (opens.indexed.first r.place opens.place) in
-      record { counted = let same = ap length (rest_from (aim_in k m t ends) (bests_with t r) number r (passages_in t) 0 p.first (omega arith) first) in omega arith; leaving = first_leaves (passages_in t) r.place 0 p.first first }
+  abbrev m : Kind
+  m = h.kind
+
+  abbrev t : Table
+  t = up.table.now
+
+  abbrev r : Record
+  r = up.found
+
+  abbrev number : ℕ
+  number = up.number
+
+  abbrev opens : Opens k m t up.ends r
+  opens = up.opens
+
+  best_of : (s : ℕ) → s < length t.places.items → best_at (each_place (λ q. q.best) t) s ≡ (place_at t s).best
+  best_of s inside = each_at (λ q. q.best) None t s inside
+
+  -- the passage n of the table, and the child by it
+  module _ (n : ℕ) (inside : n < length t.passages.items) where
+    abbrev p : Passage
+    p = (link_at t n).passage
+
+    abbrev kid : Record
+    kid = child_along (aim up) number r n
+
+    listed : n < length (passages_in t)
+    listed = omega (arith, many_passages t)
+
+    to_kid : p.to ≡ kid.place
+    to_kid = ap (λ (q : Passage). q.to) (sym (link_is t n inside))
+
+    pub to_place : p.to < length t.places.items
+    to_place = omega (arith, to_kid, opens.building.to_place n listed)
+
+    pub join_leading : Joined k r.leading p.leading
+    join_leading = rw (← link_is t n inside) (opens.joins n listed).leading
+
+    pub join_second : Joined m r.second p.second
+    join_second = rw (← link_is t n inside) (opens.joins n listed).second
+
+    pub join_leading_estimate : Joined k (k.joined r.leading p.leading) (place_at t p.to).leading
+    join_leading_estimate = rw (← each_at (λ s. s.leading) 0 t p.to to_place, ← link_is t n inside) ((opens.joins n listed).estimates number).leading
+
+    pub join_estimate : Joined m (m.joined r.second p.second) (place_at t p.to).second
+    join_estimate = rw (← each_at (λ s. s.second) 0 t p.to to_place, ← link_is t n inside) ((opens.joins n listed).estimates number).second
+
+    -- by the bests in the table, where it leads elsewhere
+    abbrev blocked : Bool
+    blocked = at_most (place_at t p.to).best (m.joined r.second p.second) || at_most (place_at t up.ends.goal).best (m.joined (m.joined r.second p.second) (place_at t p.to).second)
+
+    useless_there : (p.to ≡ r.place → ⊥) → useless (aim up) (bests_with t r) kid ≡ blocked
+    useless_there other =
+        let at_place : best_at (bests_with t r) p.to ≡ (place_at t p.to).best =
+        get_or-set_other (each_place (λ s. s.best) t) r.place p.to (Some r.second) None other ∙ best_of p.to to_place in
+        let at_goal : best_at (bests_with t r) up.ends.goal ≡ (place_at t up.ends.goal).best =
+        get_or-set_other (each_place (λ s. s.best) t) r.place up.ends.goal (Some r.second) None (λ same. opens.elsewhere (sym same)) ∙ best_of up.ends.goal opens.goal in
+        rw (← at_place, ← at_goal, ← each_at (λ s. s.second) 0 t p.to to_place, ← link_is t n inside) refl
+
+    useless_back : p.to ≡ r.place → useless (aim up) (bests_with t r) kid ≡ true
+    useless_back back =
+        let here : best_at (bests_with t r) kid.place ≡ Some r.second =
+        ap (best_at (bests_with t r)) (sym to_kid ∙ back) ∙ get_or-set_same (each_place (λ s. s.best) t) r.place (Some r.second) None (omega (arith, length-map t.places.items (λ (s : Place). s.best), opens.place)) in
+        or_left _ _ (ap (λ (o : Option ℕ). at_most o kid.second) here ∙ le-leb _ _ no_less)
+      where
+        no_less : r.second ≤ kid.second
+        no_less =
+            let laws = opens.building.second_laws in
+            let fits = opens.building.second_fits n listed in
+            omega (arith, laws.zero_right r.second opens.second, laws.mono_right 0 _ r.second laws.zero_value fits.value opens.second (omega arith))
+
+    pub none_back : p.to ≡ r.place → child up n ≡ None
+    none_back back = cond-true _ _ _ (useless_back back)
+
+    pub none_blocked : (p.to ≡ r.place → ⊥) → blocked ≡ true → child up n ≡ None
+    none_blocked other e = cond-true _ _ _ (useless_there other ∙ e)
+
+    pub some_child : (p.to ≡ r.place → ⊥) → blocked ≡ false → child up n ≡ Some (record {
+      found = record { place = p.to; leading = k.joined r.leading p.leading; second = m.joined r.second p.second; parent = Some number; passage = n };
+      leading = k.joined (k.joined r.leading p.leading) (place_at t p.to).leading;
+      second = m.joined (m.joined r.second p.second) (place_at t p.to).second;
+    })
+    some_child other e =
+        cond-false _ _ _ (useless_there other ∙ e) ∙
+        rw (← each_at (λ s. s.leading) 0 t p.to to_place, ← each_at (λ s. s.second) 0 t p.to to_place, ← link_is t n inside) refl
+
+  abbrev pub rest : Option ℕ → List Record
+  rest o = rest_of (aim up) (bests_with t r) number r (passages_in t) o
+
+  -- how far the children are counted
+  pub record Counting (count : ℕ) (o : Option ℕ) : Type 0 where
+    pub counted : count + length (rest o) ≡ length (children up)
+    pub leaving : Leaving (passages_in t) r.place o
+
+  -- all children are left at the place of r
+  module _ (p : Place) (is : p ≡ place_at t r.place) where
+    first_there : FirstFrom (passages_in t) r.place 0 p.first
+    first_there = rw is (opens.indexed.first r.place opens.place)
+
+    first_leaving : Leaving (passages_in t) r.place p.first
+    first_leaving = first_leaves (passages_in t) r.place 0 p.first first_there
+
+    all_left : children up ≡ rest p.first
+    all_left = rest_from (aim up) (bests_with t r) number r (passages_in t) 0 p.first (omega arith) first_there
+
+    pub counting_none : Counting 0 p.first
+    counting_none = record { counted = let same = ap length all_left in omega arith; leaving = first_leaving }
 
   -- the passage n is the next that leaves
-  module _ (n : ℕ) (leaving : Leaving (passages_in t) r.place (Some n)) (i : ℕ) (is : i ≡ n) where
-    abbrev onward : Option ℕ
-    onward = get_or t.next i None
+  module _ (n : ℕ) (leaving : Leaving (passages_in t) r.place (Some n)) where
+    next_first : FirstFrom (passages_in t) r.place (suc n) (link_at t n).next
+    next_first = subst (λ (s : ℕ). FirstFrom (passages_in t) s (suc n) (link_at t n).next) leaving.1 (opens.indexed.next n leaving.0)
 
-    pub next_first : FirstFrom (passages_in t) r.place (suc n) onward
-    next_first =
-        subst (λ (j : ℕ). FirstFrom (passages_in t) r.place (suc n) (get_or t.next j None)) (sym is)
-        (subst (λ (s : ℕ). FirstFrom (passages_in t) s (suc n) (get_or t.next n None)) leaving.1 (opens.indexed.next n leaving.0))
+    next_leaves : Leaving (passages_in t) r.place (link_at t n).next
+    next_leaves = first_leaves (passages_in t) r.place (suc n) (link_at t n).next next_first
 
-    pub next_leaves : Leaving (passages_in t) r.place onward
-    next_leaves = first_leaves (passages_in t) r.place (suc n) onward next_first
+    useful_rest : true ≡ is_some (child up n) → rest (Some n) ≡ child_along (aim up) number r n ∷ rest (link_at t n).next
+    useful_rest e = rest_useful (aim up) (bests_with t r) number r (passages_in t) n leaving.0 leaving.1 (link_at t n).next next_first (some_useful _ _ e)
 
-    module _ (answer : Option Child) (answers : answer ≡ child_answer k m t ends number r n) where
-      pub useful_rest : true ≡ is_some answer → rest (Some n) ≡ child_along (aim_in k m t ends) number r n ∷ rest onward
-      useful_rest e = rest_useful (aim_in k m t ends) (bests_with t r) number r (passages_in t) n leaving.0 leaving.1 onward next_first (some_useful _ _ (e ∙ ap is_some answers))
+    useless_rest : false ≡ is_some (child up n) → rest (Some n) ≡ rest (link_at t n).next
+    useless_rest e = rest_useless (aim up) (bests_with t r) number r (passages_in t) n leaving.0 leaving.1 (link_at t n).next next_first (none_useless _ _ e)
 
-      pub useless_rest : false ≡ is_some answer → rest (Some n) ≡ rest onward
-      useless_rest e = rest_useless (aim_in k m t ends) (bests_with t r) number r (passages_in t) n leaving.0 leaving.1 onward next_first (none_useless _ _ (e ∙ ap is_some answers))
+  module _ (count n : ℕ) (counting : Counting count (Some n)) where
+    pub count_useful : true ≡ is_some (child up n) → Counting (count + 1) (link_at t n).next
+    count_useful e = record { counted = omega (arith, counting.counted, ap length (useful_rest n counting.leaving e)); leaving = next_leaves n counting.leaving }
 
-      module _ (count : ℕ) (counting : Counting k m t ends number r count (Some n)) where
-        pub count_useful : true ≡ is_some answer → Counting k m t ends number r (count + 1) onward
-        count_useful e = record { counted = omega (arith, counting.counted, ap length (useful_rest e)); leaving = next_leaves }
+    pub count_useless : false ≡ is_some (child up n) → Counting count (link_at t n).next
+    count_useless e = record { counted = omega (arith, counting.counted, ap length (useless_rest n counting.leaving e)); leaving = next_leaves n counting.leaving }
 
-        pub count_useless : false ≡ is_some answer → Counting k m t ends number r count onward
-        count_useless e = record { counted = omega (arith, counting.counted, ap length (useless_rest e)); leaving = next_leaves }
+  pub count_small : (count : ℕ) (o : Option ℕ) → Counting count o → count ≤ 1024
+  count_small count o counting = omega (arith, counting.counted, few_children (aim up) (bests_with t r) number r 0 (passages_in t), opens.building.few_passages)
 
-  pub count_small : (count : ℕ) (o : Option ℕ) → Counting k m t ends number r count o → count ≤ 1024
-  count_small count o counting = omega (arith, counting.counted, few_children (aim_in k m t ends) (bests_with t r) number r 0 (passages_in t), many k m t ends r opens, opens.some_passages)
+  -- how far the children are stored, from the book c and the waiting entries es on
+  pub record Adding (c : Book) (es : List Entry) (c' : Book) (es' : List Entry) (o : Option ℕ) : Type 0 where
+    pub records : c'.records.items ++ rest o ≡ c.records.items ++ children up
+    pub choices : c'.choices ≡ c.choices
+    pub opened : c'.opened ≡ c.opened
+    pub dropped : c'.dropped ≡ c.dropped
+    pub waiting : put_all (aim up) (length c'.records.items) (rest o) es' ≡ put_all (aim up) (length c.records.items) (children up) es
+    pub many : length es' + length (rest o) ≡ length es + length (children up)
+    pub leaving : Leaving (passages_in t) r.place o
 
--- how far the children are stored, from the book b and the waiting entries es on
-pub record Adding (k m : Kind) (t : Table) (ends : Ends) (number : ℕ) (r : Record) (b : Book) (es : List Entry) (b' : Book) (es' : List Entry) (o : Option ℕ) : Type 0 where
-  pub records : take b'.used b'.records ++ rest_of (aim_in k m t ends) (bests_with t r) number r (passages_in t) o ≡ take b.used b.records ++ kids_of k m t ends number r
-  pub used : b'.used + length (rest_of (aim_in k m t ends) (bests_with t r) number r (passages_in t) o) ≡ b.used + length (kids_of k m t ends number r)
-  pub long : length b'.records ≡ length b.records
-  pub choices : b'.choices ≡ b.choices
-  pub shown : b'.shown ≡ b.shown
-  pub opened : b'.opened ≡ b.opened
-  pub dropped : b'.dropped ≡ b.dropped
-  pub waiting : put_all (aim_in k m t ends) b'.used (rest_of (aim_in k m t ends) (bests_with t r) number r (passages_in t) o) es' ≡ put_all (aim_in k m t ends) b.used (kids_of k m t ends number r) es
-  pub many : length es' + length (rest_of (aim_in k m t ends) (bests_with t r) number r (passages_in t) o) ≡ length es + length (kids_of k m t ends number r)
-  pub leaving : Leaving (passages_in t) r.place o
-
-module _ (k m : Kind) (t : Table) (ends : Ends) (r : Record) (opens : Opens k m t ends r) (number : ℕ) (b : Book) (es : List Entry) where
-  pub adding_none : (p : Place) → p ≡ place_at t r.place → Adding k m t ends number r b es b es p.first
-  adding_none p is =
-      let first = subst (λ (q : Place). FirstFrom (passages_in t) r.place 0 q.first) (sym is) (opens.indexed.first r.place opens.place) in
-      let all = sym (rest_from (aim_in k m t ends) (bests_with t r) number r (passages_in t) 0 p.first (omega arith) first) in
-      record {
-        records = ap (λ (rs : List Record). take b.used b.records ++ rs) all;
-        used = ap (λ (rs : List Record). b.used + length rs) all;
-        long = refl;
-        choices = refl;
-        shown = refl;
-        opened = refl;
-        dropped = refl;
-        waiting = ap (λ (rs : List Record). put_all (aim_in k m t ends) b.used rs es) all;
-        many = ap (λ (rs : List Record). length es + length rs) all;
-        leaving = first_leaves (passages_in t) r.place 0 p.first first;
-      }
-
-  pub adding_all : (b' : Book) (es' : List Entry) → Adding k m t ends number r b es b' es' None → Added (aim_in k m t ends) (kids_of k m t ends number r) b es b' es'
-  adding_all b' es' h = record {
-    records = sym (append-nil (take b'.used b'.records)) ∙ h.records;
-    used = omega (arith, h.used);
-    long = h.long;
-    choices = h.choices;
-    shown = h.shown;
-    opened = h.opened;
-    dropped = h.dropped;
-    waiting = h.waiting;
-  }
-
-  module _ (n : ℕ) (b' : Book) (es' : List Entry) (adding : Adding k m t ends number r b es b' es' (Some n)) (i : ℕ) (is : i ≡ n) (answer : Option Child) (answers : answer ≡ child_answer k m t ends number r n) where
-    abbrev onward' : Option ℕ
-    onward' = get_or t.next i None
-
-    abbrev rest' : Option ℕ → List Record
-    rest' o = rest_of (aim_in k m t ends) (bests_with t r) number r (passages_in t) o
-
-    pub add_useless : false ≡ is_some answer → Adding k m t ends number r b es b' es' onward'
-    add_useless e =
-        let same = sym (useless_rest k m t ends r opens number n adding.leaving i is answer answers e) in
+  module _ (c : Book) (es : List Entry) where
+    pub adding_none : (p : Place) → p ≡ place_at t r.place → Adding c es c es p.first
+    adding_none p is =
+        let all = sym (all_left p is) in
         record {
-          records = ap (λ (rs : List Record). take b'.used b'.records ++ rs) same ∙ adding.records;
-          used = ap (λ (rs : List Record). b'.used + length rs) same ∙ adding.used;
-          long = adding.long;
-          choices = adding.choices;
-          shown = adding.shown;
-          opened = adding.opened;
-          dropped = adding.dropped;
-          waiting = ap (λ (rs : List Record). put_all (aim_in k m t ends) b'.used rs es') same ∙ adding.waiting;
-          many = ap (λ (rs : List Record). length es' + length rs) same ∙ adding.many;
-          leaving = next_leaves k m t ends r opens number n adding.leaving i is;
+          records = ap (λ (rs : List Record). c.records.items ++ rs) all;
+          choices = refl;
+          opened = refl;
+          dropped = refl;
+          waiting = ap (λ (rs : List Record). put_all (aim up) (length c.records.items) rs es) all;
+          many = ap (λ (rs : List Record). length es + length rs) all;
+          leaving = first_leaving p is;
         }
 
-    -- the child is stored, and its entry put
-    module _ (c : Child) (some : answer ≡ Some c) where
-      useful : rest' (Some n) ≡ child_along (aim_in k m t ends) number r n ∷ rest' onward'
-      useful = useful_rest k m t ends r opens number n adding.leaving i is answer answers (sym (ap is_some some))
+    module _ (n : ℕ) (c' : Book) (es' : List Entry) (adding : Adding c es c' es' (Some n)) where
+      pub add_useless : false ≡ is_some (child up n) → Adding c es c' es' (link_at t n).next
+      add_useless e =
+          let same = sym (useless_rest n adding.leaving e) in
+          record {
+            records = ap (λ (rs : List Record). c'.records.items ++ rs) same ∙ adding.records;
+            choices = adding.choices;
+            opened = adding.opened;
+            dropped = adding.dropped;
+            waiting = ap (λ (rs : List Record). put_all (aim up) (length c'.records.items) rs es') same ∙ adding.waiting;
+            many = ap (λ (rs : List Record). length es' + length rs) same ∙ adding.many;
+            leaving = next_leaves n adding.leaving;
+          }
 
-      child_found : c ≡ child_with (aim_in k m t ends) (child_along (aim_in k m t ends) number r n)
-      child_found = answer_child _ _ _ (sym some ∙ answers)
+      -- the child is stored, and its entry put
+      module _ (d : Child) (some : child up n ≡ Some d) where
+        useful : rest (Some n) ≡ child_along (aim up) number r n ∷ rest (link_at t n).next
+        useful = useful_rest n adding.leaving (sym (ap is_some some))
 
-      pub room_left : length es' < length es + length (kids_of k m t ends number r)
-      room_left = omega (arith, adding.many, ap length useful)
+        child_found : d ≡ child_with (aim up) (child_along (aim up) number r n)
+        child_found = answer_child _ _ _ (sym some)
 
-      pub used_left : b'.used < b.used + length (kids_of k m t ends number r)
-      used_left = omega (arith, adding.used, ap length useful)
+        pub used_left : length c'.records.items < length c.records.items + length (children up)
+        used_left = omega (arith, ap length adding.records, length-append c'.records.items (rest (Some n)), length-append c.records.items (children up), ap length useful)
 
-      pub add_useful : b'.used < length b'.records → (b'' : Book) → b'' ≡ with_record b' c.found → (es'' : List Entry) → es'' ≡ inserted (entry_of c.leading c.second b'.used) es' → Adding k m t ends number r b es b'' es'' onward'
-      add_useful room b'' b_is es'' es-is = subst (λ (x : Book). Adding k m t ends number r b es x es'' onward') (sym b_is) (record {
-        records = ap (λ (rs : List Record). rs ++ rest' onward') (take_more_set b'.records b'.used c.found room) ∙ append_assoc (take b'.used b'.records) (c.found ∷ []) (rest' onward') ∙
-            ap (λ (rs : List Record). take b'.used b'.records ++ rs) (ap (λ (x : Child). x.found ∷ rest' onward') child_found ∙ sym useful) ∙ adding.records;
-        used = omega (arith, adding.used, ap length useful);
-        long = length-set b'.records b'.used c.found ∙ adding.long;
-        choices = adding.choices;
-        shown = adding.shown;
-        opened = adding.opened;
-        dropped = adding.dropped;
-        waiting = waiting_more;
-        many = omega (arith, adding.many, ap length useful, ap length es-is, length_inserted (entry_of c.leading c.second b'.used) es');
-        leaving = next_leaves k m t ends r opens number n adding.leaving i is;
-      })
-        where
-          waiting_more : put_all (aim_in k m t ends) (b'.used + 1) (rest' onward') es'' ≡ put_all (aim_in k m t ends) b.used (kids_of k m t ends number r) es
-          waiting_more =
-              let next : b'.used + 1 ≡ suc b'.used = omega arith in
-              ap (λ (x : ℕ). put_all (aim_in k m t ends) x (rest' onward') es'') next ∙
-              ap (put_all (aim_in k m t ends) (suc b'.used) (rest' onward')) (es-is ∙ ap (λ (x : Child). inserted (entry_of x.leading x.second b'.used) es') child_found) ∙
-              ap (λ (rs : List Record). put_all (aim_in k m t ends) b'.used rs es') (sym useful) ∙ adding.waiting
+        pub add_useful : (c'' : Book) → c'' ≡ with_record c' d.found → (es'' : List Entry) → es'' ≡ inserted (entry_of d.leading d.second (length c'.records.items)) es' → Adding c es c'' es'' (link_at t n).next
+        add_useful c'' b_is es'' es-is = subst (λ (x : Book). Adding c es x es'' (link_at t n).next) (sym b_is) (record {
+          records = append_assoc c'.records.items (d.found ∷ []) (rest (link_at t n).next) ∙
+              ap (λ (rs : List Record). c'.records.items ++ rs) (ap (λ (x : Child). x.found ∷ rest (link_at t n).next) child_found ∙ sym useful) ∙ adding.records;
+          choices = adding.choices;
+          opened = adding.opened;
+          dropped = adding.dropped;
+          waiting = waiting_more;
+          many = omega (arith, adding.many, ap length useful, ap length es-is, length_inserted (entry_of d.leading d.second (length c'.records.items)) es');
+          leaving = next_leaves n adding.leaving;
+        })
+          where
+            waiting_more : put_all (aim up) (length (c'.records.items ++ d.found ∷ [])) (rest (link_at t n).next) es'' ≡ put_all (aim up) (length c.records.items) (children up) es
+            waiting_more =
+                let used = length c'.records.items in
+                let next : length (c'.records.items ++ d.found ∷ []) ≡ suc used = omega (arith, length-append c'.records.items (d.found ∷ [])) in
+                ap (λ (x : ℕ). put_all (aim up) x (rest (link_at t n).next) es'') next ∙
+                ap (put_all (aim up) (suc used) (rest (link_at t n).next)) (es-is ∙ ap (λ (x : Child). inserted (entry_of x.leading x.second used) es') child_found) ∙
+                ap (λ (rs : List Record). put_all (aim up) used rs es') (sym useful) ∙ adding.waiting

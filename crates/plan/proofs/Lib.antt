@@ -17,11 +17,11 @@ pub mod Frontiers
 pub mod Trails
 pub mod Fairness
 pub mod Example
-pub mod Blank
+pub mod Tables
 pub mod Loading
-pub mod Refused
 pub mod Kids
 pub mod Stepping
+pub mod Rows
 pub mod Opening
 pub mod Looking
 pub mod Shapes

@@ -1,185 +1,110 @@
 -- Loading: the questions about the values of a survey's passages, and the table that is filled from it. Assumes nothing.
-use Rattle.std.proofs.Common.{◌≡◌, ℕ, suc, ◌<◌, ◌≤◌, Bool, true, false, cond, List, length, get_or, set, replicate, Some, None, Option, sym, ap, ◌∙◌, subst, inl, inr, arith}
-use lib.ListN.{length-replicate}
-use Rattle.std.proofs.lemmas.List.FromFn.{length-map-range_with_len, get_or-map-range_with_len, fill_by_all}
-use Rattle.std.proofs.lemmas.List.{get_or-set_same, get_or-set_other, length-set, length-take-le, get_or-take, get_or-replicate, get_or_past}
-use Rattle.std.proofs.lemmas.Bool.{cases_eq, cases_lt, cond-true, cond-false, and_from}
-use Rattle.costs.specs.Kinds.{Kind}
+use Rattle.std.proofs.Common.{◌≡◌, ℕ, suc, ◌+◌, ◌<◌, ◌≤◌, true, false, List, [], ◌∷◌, ◌++◌, length, map, get_or, set, is_some, Some, None, Option, Ok, sym, ap, ◌∙◌, subst, zero-add, arith}
+use Rattle.std.proofs.lemmas.List.{get_or-set_same, get_or-set_other, get_or-replicate, length-set, length-replicate, map-set, set-get_or, map_push}
+use Rattle.std.proofs.lemmas.List.FromFn.{length-map-range_with_len, get_or-map-range_with_len, map-range_with_len_more}
+use Rattle.std.proofs.lemmas.Bool.{cond-true, and_from}
+use Rattle.std.specs.List.{range_with_len}
+use Rattle.costs.specs.Kinds.{Kind, Lawful}
 use Rattle.survey.specs.declared.passage.Passage.{Passage}
+use Rattle.survey.specs.declared.refusal.Refusal.{Refusal}
 use Rattle.survey.specs.File as surveyed
-use Rattle.survey.specs.Questions.{first_no, ask, each, refusal_by}
-use Rattle.survey.proofs.Asked.{first_after}
-use Rattle.plan.specs.declared.place.Place.{Place}
+use Rattle.survey.specs.File.{byte}
+use Rattle.survey.specs.Questions.{first_no, each, unless, decided}
+use Rattle.survey.specs.Reading.{WellFormed, survey_questions}
+use Rattle.survey.proofs.Asked.{passed}
+use Rattle.survey.proofs.Formed.{well_formed}
+use Rattle.plan.specs.declared.table.Link.{Link}
 use Rattle.plan.specs.declared.table.Table.{Table}
-use Rattle.plan.specs.Ways.{Building, no_passage}
-use Rattle.plan.specs.Openings.{passage_list, building_of, values_fit, value_questions, letter_questions, load_questions}
-use Rattle.plan.specs.Views.{no_place, place_at, passages_in, building_in, NoneFrom, FirstFrom, Filled}
-use Rattle.plan.proofs.Fairness.{loaded_length, loaded_passage}
+use Rattle.plan.specs.Ways.{no_passage}
+use Rattle.plan.specs.Openings.{building_of, value_questions, load_questions, FairBuilding}
+use Rattle.plan.specs.Views.{no_link, place_at, link_at, place_from, with_first, passages_in, building_in, NoneFrom, FirstFrom, Unlinked, Copied, Filled}
+use Rattle.plan.proofs.Fairness.{loaded_length, asked_fair}
+use Rattle.plan.proofs.Tables.{many_passages, link_is}
 
--- what a survey gives for a number that it has
-pub given : (b : Bool) (p q : Passage) → Some p ≡ cond b (Some q) None → p ≡ q
-given true p q e = cc
-given false p q e = cc
+-- the passages of the table t from the number n on are linked in u
+pub record Linking (t u : Table) (n : ℕ) : Type 0 where
+  pub places : length u.places.items ≡ length t.places.items
+  pub passages : passages_in u ≡ passages_in t
+  pub first : (s : ℕ) → s < length t.places.items → FirstFrom (passages_in t) s n (place_at u s).first
+  pub next : (i : ℕ) → n ≤ i → i < length (passages_in t) → FirstFrom (passages_in t) (get_or (passages_in t) i no_passage).from (suc i) (get_or u.passages.items i no_link).next
 
-module _ (k m : Kind) (bs : List ℕ) (n : ℕ) (inside : n < surveyed.passages bs) (p : Passage) (is : p ≡ surveyed.passage_in bs n) where
-  fit_same : values_fit k m p ≡ values_fit k m (get_or (passage_list bs) n no_passage)
-  fit_same = ap (values_fit k m) (is ∙ sym (loaded_passage k m bs n inside))
+-- the passage j of the table u is put in front of those that leave its place
+module _ (t u : Table) (n j : ℕ) (one_on : n ≡ suc j) (unlinked : Unlinked t) (linked_on : Linking t u n) (below : j < length t.passages.items) where
+  abbrev ps : List Passage
+  ps = passages_in t
 
-  pub value_passed : true ≡ values_fit k m p → first_no (value_questions (building_of k m bs) n) ≡ None
-  value_passed e = cond-true _ _ _ (sym (e ∙ fit_same))
+  abbrev from : ℕ
+  from = place_from u j
 
-  pub value_stopped : false ≡ values_fit k m p → first_no (value_questions (building_of k m bs) n) ≡ Some (refusal_by (ask 10 n false))
-  value_stopped e = cond-false _ _ _ (sym (e ∙ fit_same))
+  linking : Linking t u (suc j)
+  linking = subst (Linking t u) one_on linked_on
 
--- the passages from the number n on are in the table
-pub record Filling (bs : List ℕ) (t : Table) (n : ℕ) : Type 0 where
-  pub places : length t.places ≡ 256
-  pub passages : length t.passages ≡ 1024
-  pub nexts : length t.next ≡ 1024
-  pub place_count : t.place_count ≡ surveyed.places bs
-  pub passage_count : t.passage_count ≡ surveyed.passages bs
-  pub copied : (i : ℕ) → n ≤ i → i < surveyed.passages bs → get_or t.passages i no_passage ≡ surveyed.passage_in bs i
-  pub first : (s : ℕ) → s < surveyed.places bs → FirstFrom (passage_list bs) s n (place_at t s).first
-  pub next : (i : ℕ) → n ≤ i → i < surveyed.passages bs → FirstFrom (passage_list bs) (surveyed.passage_in bs i).from (suc i) (get_or t.next i None)
+  stored : j < length u.passages.items
+  stored = omega (arith, below, ap length linking.passages, many_passages t, many_passages u)
 
--- the place s with j as its first passage
-abbrev pub first_put : Table → ℕ → ℕ → Place
-first_put t j s = record { first = Some j; best = (place_at t s).best; leading = (place_at t s).leading; second = (place_at t s).second }
+  leaves : (get_or ps j no_passage).from ≡ from
+  leaves = grind (arith, link_is, linking.passages, stored)
 
-abbrev pub fuller_at : Table → Passage → ℕ → ℕ → ℕ → Table
-fuller_at t p j s i = record { places = set t.places s (first_put t j s); passages = set t.passages i p; next = set t.next i (place_at t s).first; place_count = t.place_count; passage_count = t.passage_count }
+  pub place_there : place_from u j < length u.places.items
+  place_there = omega (arith, unlinked.leaves j (omega (arith, below, many_passages t)), leaves, linking.places)
 
-module _ (bs : List ℕ) where
-  many : length (passage_list bs) ≡ surveyed.passages bs
-  many = length-map-range_with_len (surveyed.passage_in bs) 0 (surveyed.passages bs)
+  kept : passages_in (with_first u j) ≡ passages_in u
+  kept =
+      map-set (λ (l : Link). l.passage) u.passages.items j _ ∙ ap (set (passages_in u) j) (sym (link_is u j stored)) ∙ set-get_or (passages_in u) j no_passage
 
-  passage_is : (i : ℕ) → i < surveyed.passages bs → get_or (passage_list bs) i no_passage ≡ surveyed.passage_in bs i
-  passage_is i inside = get_or-map-range_with_len (surveyed.passage_in bs) 0 (surveyed.passages bs) i i no_passage inside (omega arith)
+  next_more : (i : ℕ) → j ≤ i → i < length ps → FirstFrom ps (get_or ps i no_passage).from (suc i) (link_at (with_first u j) i).next
+  next_more i after inside = grind (arith, get_or-set_same, get_or-set_other, leaves, linking, place_there, stored)
 
-  -- before the first passage is copied
-  pub filling_none : (t : Table) → length t.passages ≡ 1024 → length t.next ≡ 1024 → (places passages : ℕ) → places ≡ surveyed.places bs → passages ≡ surveyed.passages bs →
-      Filling bs (record { places = replicate 256 no_place; passages = t.passages; next = t.next; place_count = places; passage_count = passages }) (surveyed.passages bs)
-  filling_none t long longer places passages p e = record {
-    places = length-replicate 256 no_place;
-    passages = long;
-    nexts = longer;
-    place_count = p;
-    passage_count = e;
-    copied = λ i from below. absurd (omega arith);
-    first = λ s inside. subst (FirstFrom (passage_list bs) s (surveyed.passages bs)) (sym (none_first s)) (λ i from below leaves. omega (arith, many));
-    next = λ i from below. absurd (omega arith);
+  none_here : (s n : ℕ) → (s ≡ from → ⊥) → NoneFrom ps s (suc j) n → NoneFrom ps s j n
+  none_here s n other h i after under out = grind (arith, leaves, h, other)
+
+  -- a place that the passage does not leave has the same first passage
+  passed_over : (s : ℕ) (o : Option ℕ) → (s ≡ from → ⊥) → FirstFrom ps s (suc j) o → FirstFrom ps s j o
+  passed_over s None other h = none_here s _ other h
+  passed_over s (Some n) other h = (omega (arith, h.0), h.1, h.2, none_here s n other h.3)
+
+  first_more : (s : ℕ) → s < length t.places.items → FirstFrom ps s j (place_at (with_first u j) s).first
+  first_more s inside = grind (arith, get_or-set_same, get_or-set_other, leaves, passed_over, place_there, many_passages, linking)
+
+  pub linking_more : Linking t (with_first u j) j
+  linking_more = record {
+    places = length-set u.places.items from _ ∙ linking.places;
+    passages = kept ∙ linking.passages;
+    first = first_more;
+    next = next_more;
   }
-    where
-      none_first : (s : ℕ) → (get_or (replicate 256 no_place) s no_place).first ≡ None
-      none_first s =
-          elim (cases_lt s 256) [
-            | inl inside ↦ ap (λ (p : Place). p.first) (get_or-replicate 256 s no_place no_place inside)
-            | inr past ↦ ap (λ (p : Place). p.first) (get_or_past (replicate 256 no_place) s no_place (omega (arith, length-replicate 256 no_place)))
-          ]
 
-  -- the passage j is copied, and put in front of those that leave its place
-  module _ (t : Table) (j : ℕ) (filling : Filling bs t (suc j)) (p : Passage) (is : p ≡ surveyed.passage_in bs j) (below : j < surveyed.passages bs) (few : surveyed.passages bs ≤ 1024) (there : p.from < surveyed.places bs) (some : surveyed.places bs ≤ 256) where
-    abbrev put : Place
-    put = first_put t j p.from
+-- the first n passages of the survey are in the table
+module _ (bs : List ℕ) (t : Table) (n : ℕ) (copied : passages_in t ≡ map (surveyed.passage_in bs) (range_with_len 0 n)) where
+  pub many_pushed : length t.passages.items ≡ n
+  many_pushed = grind (arith, many_passages, length-map-range_with_len)
 
-    abbrev fuller : Table
-    fuller = fuller_at t p j p.from j
+  pub pushed_more : (ls : List Link) (p : Passage) → p ≡ surveyed.passage_in bs n → ls ≡ t.passages.items ++ record { passage = p; next = None } ∷ [] → map (λ (l : Link). l.passage) ls ≡ map (surveyed.passage_in bs) (range_with_len 0 (n + 1))
+  pushed_more ls p is pushed =
+      ap (map (λ (l : Link). l.passage)) pushed ∙ map_push (λ (l : Link). l.passage) t.passages.items (record { passage = p; next = None }) ∙
+      (λ i. copied i ++ is i ∷ []) ∙ sym (map-range_with_len_more (surveyed.passage_in bs) 0 n n (zero-add n))
 
-    leaves : (get_or (passage_list bs) j no_passage).from ≡ p.from
-    leaves = ap (λ (q : Passage). q.from) (passage_is j below ∙ sym is)
+-- what the survey says is in the table
+module _ (bs : List ℕ) (t : Table) where
+  pub many_copied : Copied bs t → length t.places.items ≡ surveyed.places bs
+  many_copied copied = grind (arith, length-replicate, copied)
 
-    copied_more : (i : ℕ) → j ≤ i → i < surveyed.passages bs → get_or (set t.passages j p) i no_passage ≡ surveyed.passage_in bs i
-    copied_more i from inside =
-        elim (cases_eq i j) [
-          | inl same ↦ ap (λ (n : ℕ). get_or (set t.passages j p) n no_passage) same ∙ get_or-set_same t.passages j p no_passage (omega (arith, filling.passages)) ∙ is ∙ ap (surveyed.passage_in bs) (sym same)
-          | inr other ↦ get_or-set_other t.passages j i p no_passage other ∙ filling.copied i (omega (arith, other)) inside
-        ]
-
-    next_more : (i : ℕ) → j ≤ i → i < surveyed.passages bs → FirstFrom (passage_list bs) (surveyed.passage_in bs i).from (suc i) (get_or (set t.next j (place_at t p.from).first) i None)
-    next_more i from inside =
-        elim (cases_eq i j) [
-          | inl same ↦
-              let read : get_or (set t.next j (place_at t p.from).first) i None ≡ (place_at t p.from).first =
-              ap (λ (n : ℕ). get_or (set t.next j (place_at t p.from).first) n None) same ∙ get_or-set_same t.next j (place_at t p.from).first None (omega (arith, filling.nexts)) in
-              let place : (surveyed.passage_in bs i).from ≡ p.from = ap (λ (n : ℕ). (surveyed.passage_in bs n).from) same ∙ sym (ap (λ (q : Passage). q.from) is) in
-              subst (λ (n : ℕ). FirstFrom (passage_list bs) (surveyed.passage_in bs i).from (suc n) (get_or (set t.next j (place_at t p.from).first) i None)) (sym same)
-              (subst (FirstFrom (passage_list bs) (surveyed.passage_in bs i).from (suc j)) (sym read)
-              (subst (λ (s : ℕ). FirstFrom (passage_list bs) s (suc j) (place_at t p.from).first) (sym place) (filling.first p.from there)))
-          | inr other ↦
-              subst (FirstFrom (passage_list bs) (surveyed.passage_in bs i).from (suc i)) (sym (get_or-set_other t.next j i (place_at t p.from).first None other)) (filling.next i (omega (arith, other)) inside)
-        ]
-
-    none_here : (s n : ℕ) → (s ≡ p.from → ⊥) → NoneFrom (passage_list bs) s (suc j) n → NoneFrom (passage_list bs) s j n
-    none_here s n other h i from under out =
-        elim (cases_eq i j) [
-          | inl same ↦ other (sym out ∙ ap (λ (m : ℕ). (get_or (passage_list bs) m no_passage).from) same ∙ leaves)
-          | inr later ↦ h i (omega (arith, later)) under out
-        ]
-
-    -- a place that the passage does not leave has the same first passage
-    passed_over : (s : ℕ) (o : Option ℕ) → (s ≡ p.from → ⊥) → FirstFrom (passage_list bs) s (suc j) o → FirstFrom (passage_list bs) s j o
-    passed_over s None other h = none_here s _ other h
-    passed_over s (Some n) other h = (omega (arith, h.0), h.1, h.2, none_here s n other h.3)
-
-    first_more : (s : ℕ) → s < surveyed.places bs → FirstFrom (passage_list bs) s j (place_at fuller s).first
-    first_more s inside =
-        elim (cases_eq s p.from) [
-          | inl same ↦
-              let read : place_at fuller s ≡ put = ap (λ (n : ℕ). get_or (set t.places p.from put) n no_place) same ∙ get_or-set_same t.places p.from put no_place (omega (arith, filling.places)) in
-              subst (λ (q : Place). FirstFrom (passage_list bs) s j q.first) (sym read) (omega arith, omega (arith, many), leaves ∙ sym same, λ i from under out. omega arith)
-          | inr other ↦
-              subst (λ (q : Place). FirstFrom (passage_list bs) s j q.first) (sym (get_or-set_other t.places p.from s put no_place other)) (passed_over s _ other (filling.first s inside))
-        ]
-
-    pub filling_more : Filling bs fuller j
-    filling_more = record {
-      places = length-set t.places p.from put ∙ filling.places;
-      passages = length-set t.passages j p ∙ filling.passages;
-      nexts = length-set t.next j (place_at t p.from).first ∙ filling.nexts;
-      place_count = filling.place_count;
-      passage_count = filling.passage_count;
-      copied = copied_more;
-      first = first_more;
-      next = next_more;
-    }
-
-  pub filling_all : (t : Table) → Filling bs t 0 → surveyed.passages bs ≤ 1024 → Filled bs t
-  filling_all t filling few = record {
-    places = filling.places;
-    passages = filling.passages;
-    next = filling.nexts;
-    place_count = filling.place_count;
-    passage_count = filling.passage_count;
-    copied = all_copied;
-    indexed = record {
-      first = λ s inside. subst (λ (ps : List Passage). FirstFrom ps s 0 (place_at t s).first) (sym all_copied) (filling.first s (omega (arith, filling.place_count)));
-      next = λ n inside. subst (λ (ps : List Passage). FirstFrom ps (get_or ps n no_passage).from (suc n) (get_or t.next n None)) (sym all_copied)
-          (subst (λ (s : ℕ). FirstFrom (passage_list bs) s (suc n) (get_or t.next n None)) (sym (ap (λ (q : Passage). q.from) (passage_is n (there n inside)))) (filling.next n (omega arith) (there n inside)));
-    };
+  pub unlinked_copied : WellFormed bs → Copied bs t → Unlinked t
+  unlinked_copied formed copied = record {
+    none = λ s inside. grind (arith, get_or-replicate, many_copied, copied);
+    leaves = λ n inside. grind (arith, length-map-range_with_len, get_or-map-range_with_len, many_copied, formed, copied);
   }
-    where
-      long : length (passages_in t) ≡ surveyed.passages bs
-      long = length-take-le t.passage_count t.passages (omega (arith, filling.passages, filling.passage_count)) ∙ filling.passage_count
-
-      all_copied : passages_in t ≡ passage_list bs
-      all_copied = fill_by_all (surveyed.passage_in bs) (passages_in t) (surveyed.passages bs) no_passage long (λ i inside.
-          get_or-take t.passage_count t.passages i no_passage (omega (arith, filling.passage_count)) ∙ filling.copied i (omega arith) inside)
-
-      there : (n : ℕ) → n < length (passages_in t) → n < surveyed.passages bs
-      there n inside = omega (arith, long)
-
--- the letters and the values decide
-module _ (l s : ℕ) (b : Building) (letters : first_no (letter_questions l s b) ≡ None) where
-  pub values_decide : first_no (load_questions l s b) ≡ first_no (each (length b.passages) (value_questions b))
-  values_decide = first_after (letter_questions l s b) (each (length b.passages) (value_questions b)) letters
-
-pub letters_passed : (l s : ℕ) (b : Building) → b.leading.is_letter l ≡ true → b.second.is_letter s ≡ true → first_no (letter_questions l s b) ≡ None
-letters_passed l s b first second = cond-true _ _ _ (and_from _ _ first second)
 
 module _ (k m : Kind) (bs : List ℕ) where
-  pub many_values : each (length (building_of k m bs).passages) (value_questions (building_of k m bs)) ≡ each (surveyed.passages bs) (value_questions (building_of k m bs))
-  many_values = ap (λ (n : ℕ). each n (value_questions (building_of k m bs))) (loaded_length k m bs)
+  -- where the kinds carry the letters, the values decide
+  pub letters_carried : k.is_letter (byte bs 6) ≡ true → m.is_letter (byte bs 7) ≡ true → decided (load_questions (byte bs 6) (byte bs 7) (building_of k m bs)) (tt {0}) ≡ decided (each (surveyed.passages bs) (value_questions (building_of k m bs))) (tt {0})
+  letters_carried first second =
+      ap (λ (r : Option Refusal). unless r (tt {0})) (cond-true _ _ _ (and_from _ _ first second) ∙ ap (λ (n : ℕ). first_no (each n (value_questions (building_of k m bs)))) (loaded_length k m bs))
 
-  -- the table holds the building of the survey
-  pub building_filled : (t : Table) → Filled bs t → building_in k m t ≡ building_of k m bs
-  building_filled t filled = λ i. record { leading = k; second = m; places = filled.place_count i; passages = filled.copied i }
+  -- the table then holds the building of the survey, which is fair
+  module _ (t : Table) (filled : Filled bs t) where
+    building_filled : building_in k m t ≡ building_of k m bs
+    building_filled = λ i. record { leading = k; second = m; places = filled.places i; passages = filled.passages i }
+
+    pub fair_filled : Lawful k → Lawful m → is_some (first_no (survey_questions bs)) ≡ false → decided (load_questions (byte bs 6) (byte bs 7) (building_of k m bs)) (tt {0}) ≡ Ok (tt {0}) → FairBuilding (building_in k m t)
+    fair_filled laws others accepted asked = rw building_filled (asked_fair.loading k m bs (byte bs 6) (byte bs 7) laws others (well_formed bs accepted) (passed _ (tt {0}) (tt {0}) (sym asked)).0)

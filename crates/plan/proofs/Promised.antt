@@ -3,8 +3,8 @@ use Rattle.std.proofs.Common.{◌≡◌, ℕ, zero, suc, ◌+◌, ◌<◌, ◌�
 use Rattle.std.proofs.lemmas.List.{get_or_append_left, append-nil, append_assoc, take_at, drop_at}
 use Rattle.std.proofs.lemmas.Bool.{cond-true, cond-false, lt-ltb, le-ltb, ltb-true}
 use Rattle.std.specs.List.{ContainsAt as Has}
-use Rattle.costs.specs.Kinds.{Kind}
-use Rattle.costs.specs.declared.open_list.OpenList.{Ghosts}
+use Rattle.costs.specs.declared.kind.CostKind as kinds
+use Rattle.costs.specs.declared.open_list.OpenList as lists
 use Rattle.survey.specs.declared.refusal.Refusal.{Refusal}
 use Rattle.survey.specs.Questions.{first_no, unless, decided, told}
 use Rattle.survey.proofs.Asked.{passed, none_yes}
@@ -12,10 +12,10 @@ use Rattle.plan.specs.declared.answer.StepAnswer.{StepAnswer}
 use Rattle.plan.specs.declared.answer.StepAnswer.TheVariants.{Dropped}
 use Rattle.plan.specs.declared.counts.Counts.{Counts}
 use Rattle.plan.specs.declared.fault.PlanFault.{PlanFault}
-use Rattle.plan.specs.declared.fault.PlanFault.TheVariants.{NotLoaded, Ends, NoSlot, Forecasts, Forecast, AtGoal, Leading, Inconsistent, NotOpened, Complete, NoRecord, NoChoice, Legs}
+use Rattle.plan.specs.declared.fault.PlanFault.TheVariants.{NotLoaded, Ends as NoPlace, NoSlot, Forecasts, Forecast, AtGoal, Leading, Inconsistent, NotOpened, Complete, NoRecord, NoChoice, Legs}
 use Rattle.plan.specs.declared.leg.Leg.{Leg}
 use Rattle.plan.specs.declared.record.Record.{Record}
-use Rattle.plan.specs.declared.state.Ends as ended
+use Rattle.plan.specs.declared.state.Ends.{Ends}
 use Rattle.plan.specs.declared.state.Phase.{Phase}
 use Rattle.plan.specs.declared.state.Phase.TheVariants.{Bare, Loaded, Opened}
 use Rattle.plan.specs.declared.state.Plan.{Plan}
@@ -26,8 +26,9 @@ use Rattle.plan.specs.Legs.{choice_legs, WayWith}
 use Rattle.plan.specs.Openings.{Fair, FairBuilding, Passed, task_questions}
 use Rattle.plan.specs.Promise.{Dominated}
 use Rattle.plan.specs.Requests.{task_for}
-use Rattle.plan.specs.Views.{Stage, bare, loaded, opened, stage_at, building_in, task_of, state_of, stage}
-use Rattle.plan.specs.Calls.{open_questions, beginning, told_answer, step_answer, step_stage, step_questions, choice_questions, choice_totals, way_questions, way_legs, filled, counts_of, Opening, Step, LookUp, Listing, Finish}
+use Rattle.plan.specs.Stages.{building_held, task_between, state_of, stage}
+use Rattle.plan.specs.Views.{Stage, bare, loaded, opened, stage_at}
+use Rattle.plan.specs.Calls.{open_questions, beginning, told_answer, step_answer, step_stage, step_questions, choice_questions, choice_totals, way_questions, way_legs, filled, counts_of, Step, LookUp, Listing, Finish}
 use Rattle.plan.specs.Runs.{Event, step, look, list, refusal_in, answers_in, building_at, Runs, none, stepping, looking, listing, Asked, Shows, Kept, Begun, Same}
 use Rattle.plan.proofs.Counted.{counted_after}
 use Rattle.plan.proofs.Fairness.{asked_fair}
@@ -39,12 +40,12 @@ use Rattle.plan.proofs.Stepping.{complete_by}
 -- a refusal tells its fault
 abbrev fault_by : ℕ → ℕ → PlanFault
 fault_by n s =
-    cond (eqb n 11) NotLoaded (cond (eqb n 12) Ends (cond (eqb n 13) NoSlot (cond (eqb n 14) Forecasts (cond (eqb n 15) (Forecast s) (cond (eqb n 16) AtGoal (cond (eqb n 17) (Leading s)
+    cond (eqb n 11) NotLoaded (cond (eqb n 12) NoPlace (cond (eqb n 13) NoSlot (cond (eqb n 14) Forecasts (cond (eqb n 15) (Forecast s) (cond (eqb n 16) AtGoal (cond (eqb n 17) (Leading s)
     (cond (eqb n 18) (Inconsistent s) (cond (eqb n 19) NotOpened (cond (eqb n 20) Complete (cond (eqb n 21) NoRecord (cond (eqb n 22) NoChoice (Legs s))))))))))))
 
 fault_back : (f : PlanFault) → fault_by (plan_refusal f).number (plan_refusal f).spot ≡ f
 fault_back NotLoaded = refl
-fault_back Ends = refl
+fault_back NoPlace = refl
 fault_back NoSlot = refl
 fault_back Forecasts = refl
 fault_back (Forecast s) = refl
@@ -113,27 +114,27 @@ module _ (task : Task) (fair : Fair task) where
   rules_answers n zero = []
   rules_answers n (suc j) = taken (told_answer (stepped task (after task n)).answer) ∷ rules_answers (suc n) j
 
-  module _ {A B Q : Type 0} (k m : Kind) (lists : Ghosts Q) where
+  module _ {A B Q : Type 0} {a : kinds.Ghosts A} {b : kinds.Ghosts B} {l : lists.Ghosts Q} where
     -- the plan p is where n accepted steps lead
-    pub record Where (p : Plan A B Q) (n : ℕ) : Type 0 where
-      pub stands : stage k m lists p ≡ opened task (after task n)
+    pub record Where (p : Plan A B Q a b l) (n : ℕ) : Type 0 where
+      pub stands : stage p ≡ opened task (after task n)
       pub counts : accepted (after task n) ≡ n
 
     -- one step on
-    step_told : (p q : Plan A B Q) (r : Result StepAnswer PlanFault) (n : ℕ) → Where p n → Step k m lists p r q → told plan_refusal r ≡ told_answer (stepped task (after task n)).answer
+    step_told : (p q : Plan A B Q a b l) (r : Result StepAnswer PlanFault) (n : ℕ) → Where p n → Step p r q → told plan_refusal r ≡ told_answer (stepped task (after task n)).answer
     step_told p q r n here made = made.answer ∙ ap step_answer here.stands
 
-    accepted_on : (p q : Plan A B Q) (a : StepAnswer) (n : ℕ) → Where p n → Step k m lists p (Ok a) q → Where q (suc n)
+    accepted_on : (p q : Plan A B Q a b l) (a : StepAnswer) (n : ℕ) → Where p n → Step p (Ok a) q → Where q (suc n)
     accepted_on p q a n here made = record {
       stands = made.next ∙ ap step_stage here.stands;
       counts = counts_one task (after task n) a (sym (step_told p q (Ok a) n here made)) ∙ ap suc here.counts;
     }
 
-    refused_on : (p q : Plan A B Q) (f : PlanFault) (n : ℕ) → Where p n → Step k m lists p (Err f) q → Where q n
-    refused_on p q f n here made = subst (λ (x : Plan A B Q). Where x n) (sym made.refused) here
+    refused_on : (p q : Plan A B Q a b l) (f : PlanFault) (n : ℕ) → Where p n → Step p (Err f) q → Where q n
+    refused_on p q f n here made = subst (λ (x : Plan A B Q a b l). Where x n) (sym made.refused) here
 
     -- where a run leads
-    pub arrives : (p q : Plan A B Q) (es : List Event) (n : ℕ) → Where p n → Runs k m lists p es q → Where q (length (answers_in es) + n)
+    pub arrives : (p q : Plan A B Q a b l) (es : List Event) (n : ℕ) → Where p n → Runs p es q → Where q (length (answers_in es) + n)
     arrives p q es n here (none x) = let same : n ≡ 0 + n = omega arith in subst (Where p) same here
     arrives p q es n here (stepping x y (Ok a) {es = rest} made run) =
         let same : length (answers_in rest) + suc n ≡ suc (length (answers_in rest)) + n = omega arith in
@@ -142,7 +143,7 @@ module _ (task : Task) (fair : Fair task) where
     arrives p q es n here (looking x i r {es = rest} made run) = arrives p q rest n here run
     arrives p q es n here (listing x i legs r legs' {es = rest} made run) = arrives p q rest n here run
 
-    pub answers_are : (p q : Plan A B Q) (es : List Event) (n : ℕ) → Where p n → Runs k m lists p es q → answers_in es ≡ rules_answers n (length (answers_in es))
+    pub answers_are : (p q : Plan A B Q a b l) (es : List Event) (n : ℕ) → Where p n → Runs p es q → answers_in es ≡ rules_answers n (length (answers_in es))
     answers_are p q es n here (none x) = refl
     answers_are p q es n here (stepping x y (Ok a) {es = rest} made run) =
         let this : a ≡ taken (told_answer (stepped task (after task n)).answer) = ap taken (step_told p y (Ok a) n here made) in
@@ -151,7 +152,7 @@ module _ (task : Task) (fair : Fair task) where
     answers_are p q es n here (looking x i r {es = rest} made run) = answers_are p q rest n here run
     answers_are p q es n here (listing x i legs r legs' {es = rest} made run) = answers_are p q rest n here run
 
-    step_asked : (p q : Plan A B Q) (r : Result StepAnswer PlanFault) (n : ℕ) → Where p n → Step k m lists p r q → first_no (step_questions (stage k m lists p)) ≡ refusal_in r
+    step_asked : (p q : Plan A B Q a b l) (r : Result StepAnswer PlanFault) (n : ℕ) → Where p n → Step p r q → first_no (step_questions (stage p)) ≡ refusal_in r
     step_asked p q r n here made =
         ap (λ (st : Stage). first_no (step_questions st)) here.stands ∙ refused_asked task (after task n) ∙ ap (refusal_of task (after task n)) (sym (step_told p q r n here made)) ∙ told_refusal r
       where
@@ -159,7 +160,7 @@ module _ (task : Task) (fair : Fair task) where
         told_refusal (Ok a) = refl
         told_refusal (Err f) = refl
 
-    pub all_asked : (p q : Plan A B Q) (es : List Event) (n : ℕ) → Where p n → (run : Runs k m lists p es q) → Asked k m lists run
+    pub all_asked : (p q : Plan A B Q a b l) (es : List Event) (n : ℕ) → Where p n → (run : Runs p es q) → Asked run
     all_asked p q es n here (none x) = tt
     all_asked p q es n here (stepping x y (Ok a) {es = rest} made run) = (step_asked p y (Ok a) n here made, all_asked y q rest (suc n) (accepted_on p y a n here made) run)
     all_asked p q es n here (stepping x y (Err f) {es = rest} made run) = (step_asked p y (Err f) n here made, all_asked y q rest n (refused_on p y f n here made) run)
@@ -167,20 +168,20 @@ module _ (task : Task) (fair : Fair task) where
     all_asked p q es n here (listing x i legs r legs' {es = rest} made run) = (asked_by _ _ r made.answer, all_asked p q rest n here run)
 
     -- one call on a plan
-    abbrev Made : Plan A B Q → Event → Type 0
-    Made p (step r) = (q : Plan A B Q) × Step k m lists p r q
-    Made p (look i r) = LookUp k m lists p i r
-    Made p (list i legs r legs') = Listing k m lists p i legs r legs'
+    abbrev Made : Plan A B Q a b l → Event → Type 0
+    Made p (step r) = (q : Plan A B Q a b l) × Step p r q
+    Made p (look i r) = LookUp p i r
+    Made p (list i legs r legs') = Listing p i legs r legs'
 
     -- the moment at which a call of a run was made
-    record Moment (plan : Plan A B Q) (e : Event) (n many : ℕ) : Type 0 where
+    record Moment (plan : Plan A B Q a b l) (e : Event) (n many : ℕ) : Type 0 where
       steps : ℕ
       more : ℕ
       there : Where plan steps
       made : Made plan e
       later : more + steps ≡ many + n
 
-    moment : (p q : Plan A B Q) (es : List Event) (n : ℕ) → Where p n → Runs k m lists p es q → (e : Event) (i : ℕ) → i < length es → ((d : Event) → get_or es i d ≡ e) → (x : Plan A B Q) × Moment x e n (length (answers_in es))
+    moment : (p q : Plan A B Q a b l) (es : List Event) (n : ℕ) → Where p n → Runs p es q → (e : Event) (i : ℕ) → i < length es → ((d : Event) → get_or es i d ≡ e) → (x : Plan A B Q a b l) × Moment x e n (length (answers_in es))
     moment p q es n here (none x) e i inside at = absurd (omega arith)
     moment p q es n here (stepping x y (Ok a) {es = rest} made run) e zero inside at = (p, record { steps = n; more = suc (length (answers_in rest)); there = here; made = subst (Made p) (at e) (y, made); later = refl })
     moment p q es n here (stepping x y (Ok a) {es = rest} made run) e (suc i) inside at =
@@ -194,17 +195,17 @@ module _ (task : Task) (fair : Fair task) where
     moment p q es n here (listing x j legs r legs' {es = rest} made run) e (suc i) inside at = moment p q rest n here run e i (omega arith) at
 
     -- what the plan shows where n steps lead
-    module _ (q : Plan A B Q) (n : ℕ) (here : Where q n) where
+    module _ (q : Plan A B Q a b l) (n : ℕ) (here : Where q n) where
       abbrev pub pairs : List Pair
       pairs = choice_pairs (after task n)
 
       many_pairs : length pairs ≡ length (after task n).choices
       many_pairs = pairs_length (after task n).records (after task n).choices
 
-      looked : (i : ℕ) (r : Result (ℕ × ℕ) PlanFault) → LookUp k m lists q i r → told plan_refusal r ≡ decided (choice_questions (opened task (after task n)) i) (choice_totals (opened task (after task n)) i)
+      looked : (i : ℕ) (r : Result (ℕ × ℕ) PlanFault) → LookUp q i r → told plan_refusal r ≡ decided (choice_questions (opened task (after task n)) i) (choice_totals (opened task (after task n)) i)
       looked i r made = made ∙ ap (λ (st : Stage). decided (choice_questions st i) (choice_totals st i)) here.stands
 
-      pub shows_pairs : Shows k m lists q pairs
+      pub shows_pairs : Shows q pairs
       shows_pairs = record {
         each = λ i r d made inside. same_told r (Ok ((get_or pairs i d).lead, (get_or pairs i d).second))
             (looked i r made ∙ ap (λ (o : Option Refusal). unless o (choice_totals (opened task (after task n)) i)) (cond-true _ _ _ (lt-ltb i (length (after task n).choices) (omega (arith, many_pairs)))) ∙
@@ -214,7 +215,7 @@ module _ (task : Task) (fair : Fair task) where
       }
 
     -- an accepted listing gives a way of the rules
-    module _ (p : Plan A B Q) (n : ℕ) (here : Where p n) (i many : ℕ) (legs legs' : List Leg) (made : Listing k m lists p i legs (Ok many) legs') where
+    module _ (p : Plan A B Q a b l) (n : ℕ) (here : Where p n) (i many : ℕ) (legs legs' : List Leg) (made : Listing p i legs (Ok many) legs') where
       abbrev way : List Leg
       way = choice_legs (after task n) i
 
@@ -239,7 +240,7 @@ module _ (task : Task) (fair : Fair task) where
       listed_rest = ap (drop many) listed_left ∙ drop_at way (drop (length way) legs) many (sym listed_many) ∙ ap (λ (x : ℕ). drop x legs) (sym listed_many)
 
     -- the promise of one plan, where a run from the opening leads
-    module _ (p q : Plan A B Q) (es : List Event) (start : Where p 0) (run : Runs k m lists p es q) (few : task.slots ≤ 2048) where
+    module _ (p q : Plan A B Q a b l) (es : List Event) (start : Where p 0) (run : Runs p es q) (few : task.slots ≤ 2048) where
       abbrev many_steps : ℕ
       many_steps = length (answers_in es)
 
@@ -282,7 +283,7 @@ module _ (task : Task) (fair : Fair task) where
           let same : after task many_steps ≡ after task at.steps = ap (after task) (sym (at.later ∙ total)) ∙ stuck at.steps at.more empty in
           subst (λ (s : State). Dominated task.building task.start task.goal (choice_pairs s)) (sym same) ((search_theorem_lem task fair at.steps).complete empty)
 
-      pub kept_run : Kept k m lists task.building task.start task.goal es q
+      pub kept_run : Kept task.building task.start task.goal es q
       kept_run = record {
         shown = choice_pairs (after task many_steps);
         looked_up = shows_pairs q many_steps ends_at;
@@ -295,10 +296,7 @@ module _ (task : Task) (fair : Fair task) where
 -- what an accepted opening begins
 module _ (f : Building → Task) (b : Building) where
   begins : (st : Stage) → building_at st ≡ Some b → first_no (open_questions st f) ≡ None → Passed (task_questions (f b)) × (beginning st f ≡ opened (f b) (begun (f b)))
-  begins bare is none-asked = cc_none is
-    where
-      cc_none : None ≡ Some b → Passed (task_questions (f b)) × (beginning bare f ≡ opened (f b) (begun (f b)))
-      cc_none e = absurd (let z : ◌≡◌ {A = ℕ} 0 1 = cc in omega arith)
+  begins bare is none-asked = absurd cc
   begins (loaded c) is passed-all =
       let same : c ≡ b = cc in
       (subst (λ (x : Building). Passed (task_questions (f x))) same passed-all, ap (λ (x : Building). opened (f x) (begun (f x))) same)
@@ -306,59 +304,56 @@ module _ (f : Building → Task) (b : Building) where
       let same : task.building ≡ b = cc in
       (subst (λ (x : Building). Passed (task_questions (f x))) same passed-all, ap (λ (x : Building). opened (f x) (begun (f x))) same)
 
-loaded_is : (x : Phase) (b c : Building) (task : Task) (s : State) → task.building ≡ b → building_at (stage_at x b task s) ≡ Some c → b ≡ c
+loaded_is : (x : Phase) (b c : Building) (task : Ends → Task) (s : State) → ((ends : Ends) → (task ends).building ≡ b) → building_at (stage_at x b task s) ≡ Some c → b ≡ c
 loaded_is Bare b c task s same is = cc
 loaded_is Loaded b c task s same is = cc
-loaded_is Opened b c task s same is = cc
+loaded_is (Opened ends) b c task s same is = let here = same ends in cc
 
-module _ {A B Q : Type 0} (k m : Kind) (lists : Ghosts Q) (b : Building) (ends : ended.Ends) (leading second : List ℕ) (slots : ℕ) (p : Plan A B Q) (begun_by : Begun k m lists b ends leading second slots p) where
+module _ {A B Q : Type 0} {a : kinds.Ghosts A} {b : kinds.Ghosts B} {l : lists.Ghosts Q} (c : Building) (ends : Ends) (leading second : List ℕ) (slots : ℕ) (p : Plan A B Q a b l) (begun_by : Begun c ends leading second slots p) where
   abbrev pub asked_task : Task
-  asked_task = task_for ends leading second slots b
+  asked_task = task_for ends leading second slots c
 
-  opening_is : Opening k m lists begun_by.before ends leading second (Ok tt) p
-  opening_is = begun_by.opening
-
-  begun_all : Passed (task_questions asked_task) × (stage k m lists p ≡ opened asked_task (begun asked_task))
+  begun_all : Passed (task_questions asked_task) × (stage p ≡ opened asked_task (begun asked_task))
   begun_all =
-      let f = task_for ends leading second (lists.slots begun_by.before.list) in
-      let asked = (passed (first_no (open_questions (stage k m lists begun_by.before) f)) tt tt opening_is.answer).0 in
-      let both = begins f b (stage k m lists begun_by.before) begun_by.building asked in
-      let same : f b ≡ asked_task = ap (λ (n : ℕ). task_for ends leading second n b) begun_by.slots_are in
-      (subst (λ (t : Task). Passed (task_questions t)) same both.0, opening_is.next ∙ both.1 ∙ ap (λ (t : Task). opened t (begun t)) same)
+      let f = task_for ends leading second (l.slots begun_by.before.list) in
+      let asked = (passed (first_no (open_questions (stage begun_by.before) f)) tt tt begun_by.opening.answer).0 in
+      let both = begins f c (stage begun_by.before) begun_by.building asked in
+      let same : f c ≡ asked_task = ap (λ (n : ℕ). task_for ends leading second n c) begun_by.slots_are in
+      (subst (λ (t : Task). Passed (task_questions t)) same both.0, begun_by.opening.next ∙ both.1 ∙ ap (λ (t : Task). opened t (begun t)) same)
 
   pub begun_fair : Fair asked_task
   begun_fair =
       let before = begun_by.before in
-      let same = loaded_is before.phase (building_in k m before.table) b (task_of k m lists before) (state_of k m lists before) refl begun_by.building in
-      asked_fair.opening asked_task (subst FairBuilding same begun_by.sound.building) begun_all.0
+      let same = loaded_is before.phase (building_held before) c (task_between before) (state_of before) (λ e. refl) begun_by.building in
+      asked_fair.opening asked_task (subst FairBuilding same before.building) begun_all.0
 
-  pub begun_where : Where asked_task begun_fair k m lists p 0
+  pub begun_where : Where asked_task begun_fair p 0
   begun_where = record { stands = begun_all.1; counts = refl }
 
-  pub few_slots : ((l : Q) → lists.slots l ≤ 2048) → slots ≤ 2048
+  pub few_slots : ((w : Q) → l.slots w ≤ 2048) → slots ≤ 2048
   few_slots limit = omega (arith, limit begun_by.before.list, begun_by.slots_are)
 
 -- two plans that stand where the same steps lead
-module _ {A B P Q : Type 0} (k m : Kind) (ps : Ghosts P) (qs : Ghosts Q) (q : Plan A B P) (q' : Plan A B Q) (alike : stage k m ps q ≡ stage k m qs q') where
-  same_choices : (i : ℕ) (r r' : Result (ℕ × ℕ) PlanFault) → LookUp k m ps q i r → LookUp k m qs q' i r' → r ≡ r'
+module _ {A B P Q : Type 0} {a : kinds.Ghosts A} {b : kinds.Ghosts B} {l : lists.Ghosts P} {m : lists.Ghosts Q} (q : Plan A B P a b l) (q' : Plan A B Q a b m) (alike : stage q ≡ stage q') where
+  same_choices : (i : ℕ) (r r' : Result (ℕ × ℕ) PlanFault) → LookUp q i r → LookUp q' i r' → r ≡ r'
   same_choices i r r' made made' = same_told r r' (made ∙ ap (λ (st : Stage). decided (choice_questions st i) (choice_totals st i)) alike ∙ sym made')
 
-  same_ways : (i : ℕ) (lent left left' : List Leg) (r r' : Result ℕ PlanFault) → Listing k m ps q i lent r left → Listing k m qs q' i lent r' left' → (r ≡ r') × (left ≡ left')
+  same_ways : (i : ℕ) (lent left left' : List Leg) (r r' : Result ℕ PlanFault) → Listing q i lent r left → Listing q' i lent r' left' → (r ≡ r') × (left ≡ left')
   same_ways i lent left left' r r' made made' =
       let answers = same_told r r' (made.answer ∙ ap (λ (st : Stage). decided (way_questions st i (length lent)) (length (way_legs st i))) alike ∙ sym made'.answer) in
       (answers, made.left ∙ (λ j. filled (answers j) (way_legs (alike j) i) lent) ∙ sym made'.left)
 
-  same_counts : (c c' : Counts) → Finish k m ps q c → Finish k m qs q' c' → c ≡ c'
+  same_counts : (c c' : Counts) → Finish q c → Finish q' c' → c ≡ c'
   same_counts c c' made made' = made ∙ ap counts_of alike ∙ sym made'
 
-module _ {A B P Q : Type 0} (k m : Kind) (ps : Ghosts P) (qs : Ghosts Q) (task : Task) (fair : Fair task) (p q : Plan A B P) (p' q' : Plan A B Q) (es es' : List Event) (start : Where task fair k m ps p 0) (run : Runs k m ps p es q) (start' : Where task fair k m qs p' 0) (run' : Runs k m qs p' es' q')
+module _ {A B P Q : Type 0} {a : kinds.Ghosts A} {b : kinds.Ghosts B} {l : lists.Ghosts P} {m : lists.Ghosts Q} (task : Task) (fair : Fair task) (p q : Plan A B P a b l) (p' q' : Plan A B Q a b m) (es es' : List Event) (start : Where task fair p 0) (run : Runs p es q) (start' : Where task fair p' 0) (run' : Runs p' es' q')
     (few : task.slots ≤ 2048) (many : length (answers_in es) ≡ length (answers_in es')) where
-  pub same_run : Same k m ps qs es q es' q'
+  pub same_run : Same es q es' q'
   same_run =
-      let alike = (ends_at task fair k m ps p q es start run few).stands ∙ ap (λ (n : ℕ). opened task (after task n)) many ∙ sym (ends_at task fair k m qs p' q' es' start' run' few).stands in
+      let alike = (ends_at task fair p q es start run few).stands ∙ ap (λ (n : ℕ). opened task (after task n)) many ∙ sym (ends_at task fair p' q' es' start' run' few).stands in
       record {
-        answers = answers_are task fair k m ps p q es 0 start run ∙ ap (rules_answers task fair 0) many ∙ sym (answers_are task fair k m qs p' q' es' 0 start' run');
-        choices = same_choices k m ps qs q q' alike;
-        ways = same_ways k m ps qs q q' alike;
-        counts = same_counts k m ps qs q q' alike;
+        answers = answers_are task fair p q es 0 start run ∙ ap (rules_answers task fair 0) many ∙ sym (answers_are task fair p' q' es' 0 start' run');
+        choices = same_choices q q' alike;
+        ways = same_ways q q' alike;
+        counts = same_counts q q' alike;
       }

@@ -58,28 +58,22 @@ module _ (task : Task) (s : State) where
   pub counts_one : (a : StepAnswer) → told_answer (stepped task s).answer ≡ Ok a → accepted (stepped task s).next ≡ suc (accepted s)
   counts_one a is = by shape
     where
-      wrong : (r : Refusal) → Err r ≡ Ok a → ⊥
-      wrong r e = let z : ◌≡◌ {A = ℕ} 0 1 = cc in omega arith
-
       by : Shape task s → accepted (stepped task s).next ≡ suc (accepted s)
-      by (done waits x) = absurd (wrong _ (sym (answer_of _ x) ∙ is))
+      by (done waits x) = cc (answer_of _ x)
       by (drops e es waits no_use x) = ap accepted (next_of _ x) ∙ omega arith
       by (shows e es waits here x) = ap accepted (next_of _ x) ∙ omega arith
       by (opens e es waits of_use elsewhere enough x) = ap accepted (next_of _ x) ∙ omega arith
-      by (wants e es waits of_use elsewhere few x) = absurd (wrong _ (sym (answer_of _ x) ∙ is))
+      by (wants e es waits of_use elsewhere few x) = cc (answer_of _ x)
 
   -- complete means that nothing waits
   pub none_waits : told_answer (stepped task s).answer ≡ Err (plan_refusal Complete) → s.waiting ≡ []
   none_waits is = by shape
     where
-      wrong : (a : StepAnswer) → Ok a ≡ Err (plan_refusal Complete) → ⊥
-      wrong a e = let z : ◌≡◌ {A = ℕ} 0 1 = cc in omega arith
-
       by : Shape task s → s.waiting ≡ []
       by (done waits x) = waits
-      by (drops e es waits no_use x) = absurd (wrong _ (sym (answer_of _ x) ∙ is))
-      by (shows e es waits here x) = absurd (wrong _ (sym (answer_of _ x) ∙ is))
-      by (opens e es waits of_use elsewhere enough x) = absurd (wrong _ (sym (answer_of _ x) ∙ is))
+      by (drops e es waits no_use x) = cc (answer_of _ x)
+      by (shows e es waits here x) = cc (answer_of _ x)
+      by (opens e es waits of_use elsewhere enough x) = cc (answer_of _ x)
       by (wants e es waits of_use elsewhere few x) = absurd (let z : ◌≡◌ {A = ℕ} 21 20 = ap number (sym (answer_of _ x) ∙ is) in omega arith)
 
   -- the pairs shown before stay, in front

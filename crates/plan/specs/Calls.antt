@@ -11,11 +11,11 @@
 --   counts_of st           the counts of a finish
 --   Untouched r p q        if r is a refusal, then q is p
 --   Opening, Step, LookUp, Listing, Finish     what each call does, as its contract states it
-use Rattle.std.specs.Prelude.{◌≡◌, ℕ, ◌-◌, Bool, true, false, cond, ◌||◌, List, [], ◌∷◌, ◌++◌, length, drop, Some, Ok, Err, Result, OnErr, ◌==◌, nat_le, nat_lt, slice_set}
+use Rattle.std.specs.Prelude.{◌≡◌, ℕ, ◌-◌, Bool, true, false, cond, ◌||◌, List, [], ◌∷◌, ◌++◌, length, drop, Some, Ok, Err, Result, OnErr, ◌==◌, nat_le, nat_lt, ◌≢◌, slice_set}
 use Rattle.costs.specs.Bag.{first}
-use Rattle.costs.specs.Kinds.{Kind}
 use Rattle.costs.specs.declared.entry.Entry.{Entry}
-use Rattle.costs.specs.declared.open_list.OpenList.{Ghosts}
+use Rattle.costs.specs.declared.kind.CostKind as kinds
+use Rattle.costs.specs.declared.open_list.OpenList as lists
 use Rattle.survey.specs.declared.refusal.Refusal.{Refusal}
 use Rattle.survey.specs.Questions.{Question, ask, decided, told}
 use Rattle.plan.specs.declared.answer.StepAnswer.{StepAnswer}
@@ -34,7 +34,8 @@ use Rattle.plan.specs.Rules.{Task, State, Answer, dropped, shown, opened as open
 use Rattle.plan.specs.Legs.{choice_legs}
 use Rattle.plan.specs.Openings.{task_questions}
 use Rattle.plan.specs.Requests.{task_for}
-use Rattle.plan.specs.Views.{Stage, bare, loaded, opened, task_of, state_of, stage}
+use Rattle.plan.specs.Stages.{task_between, state_of, stage}
+use Rattle.plan.specs.Views.{Stage, bare, loaded, opened}
 
 abbrev pub settled : {T F : Type 0} → Result T F → Stage → Stage → Stage
 settled (Ok _) new old = new
@@ -123,38 +124,38 @@ counts_of (opened task s) = record { records = length s.records; opened = s.open
 abbrev pub Untouched : {T F P : Type 0} → Result T F → P → P → Type 0
 Untouched r p q = OnErr r (q ≡ p)
 
-module _ {A B Q : Type 0} (k m : Kind) (lists : Ghosts Q) where
-  -- a step on the plan p answered r and left q
-  pub record Step (p : Plan A B Q) (r : Result StepAnswer PlanFault) (q : Plan A B Q) : Type 0 where
-    pub answer : told plan_refusal r ≡ step_answer (stage k m lists p)
-    pub next : stage k m lists q ≡ step_stage (stage k m lists p)
-    pub refused : Untouched r p q
+module _ {A B Q : Type 0} {a : kinds.Ghosts A} {b : kinds.Ghosts B} {q : lists.Ghosts Q} where
+  -- a step on the plan p answered r and left p'
+  pub record Step (p : Plan A B Q a b q) (r : Result StepAnswer PlanFault) (p' : Plan A B Q a b q) : Type 0 where
+    pub answer : told plan_refusal r ≡ step_answer (stage p)
+    pub next : stage p' ≡ step_stage (stage p)
+    pub refused : Untouched r p p'
 
   -- a look-up of the choice i answered r
-  abbrev pub LookUp : Plan A B Q → ℕ → Result (ℕ × ℕ) PlanFault → Type 0
-  LookUp p i r = told plan_refusal r ≡ decided (choice_questions (stage k m lists p) i) (choice_totals (stage k m lists p) i)
+  abbrev pub LookUp : Plan A B Q a b q → ℕ → Result (ℕ × ℕ) PlanFault → Type 0
+  LookUp p i r = told plan_refusal r ≡ decided (choice_questions (stage p) i) (choice_totals (stage p) i)
 
   -- a listing of the way of the choice i into the lent legs answered r, and left them as legs'
-  pub record Listing (p : Plan A B Q) (i : ℕ) (legs : List Leg) (r : Result ℕ PlanFault) (legs' : List Leg) : Type 0 where
-    pub answer : told plan_refusal r ≡ decided (way_questions (stage k m lists p) i (length legs)) (length (way_legs (stage k m lists p) i))
-    pub left : legs' ≡ filled r (way_legs (stage k m lists p) i) legs
+  pub record Listing (p : Plan A B Q a b q) (i : ℕ) (legs : List Leg) (r : Result ℕ PlanFault) (legs' : List Leg) : Type 0 where
+    pub answer : told plan_refusal r ≡ decided (way_questions (stage p) i (length legs)) (length (way_legs (stage p) i))
+    pub left : legs' ≡ filled r (way_legs (stage p) i) legs
 
-  -- an opening between the ends with two lists of forecasts answered r, and left the plan q
-  pub record Opening (p : Plan A B Q) (ends : Ends) (leading second : List ℕ) (r : Result (Unit {0}) PlanFault) (q : Plan A B Q) : Type 0 where
-    pub answer : told plan_refusal r ≡ decided (open_questions (stage k m lists p) (task_for ends leading second (lists.slots p.list))) tt
-    pub next : stage k m lists q ≡ settled r (beginning (stage k m lists p) (task_for ends leading second (lists.slots p.list))) (stage k m lists p)
-    pub refused : Untouched r p q
+  -- an opening between the ends with two lists of forecasts answered r, and left the plan p'
+  pub record Opening (p : Plan A B Q a b q) (ends : Ends) (leading second : List ℕ) (r : Result (Unit {0}) PlanFault) (p' : Plan A B Q a b q) : Type 0 where
+    pub answer : told plan_refusal r ≡ decided (open_questions (stage p) (task_for ends leading second (q.slots p.list))) tt
+    pub next : stage p' ≡ settled r (beginning (stage p) (task_for ends leading second (q.slots p.list))) (stage p)
+    pub refused : Untouched r p p'
 
   -- a finish of the plan p gave these counts
-  abbrev pub Finish : Plan A B Q → Counts → Type 0
-  Finish p counts = counts ≡ counts_of (stage k m lists p)
+  abbrev pub Finish : Plan A B Q a b q → Counts → Type 0
+  Finish p counts = counts ≡ counts_of (stage p)
 
-  -- the least entry of an opened plan is that of the record number, which is of use and not at the goal
-  pub record ToOpen (p : Plan A B Q) (number : ℕ) (parent : Record) : Type 0 where
-    pub phase : p.phase ≡ Opened
+  -- the least entry of a plan opened between the ends is that of the record r with the number n, which is of use and not at the goal
+  pub record ToOpen (p : Plan A B Q a b q) (ends : Ends) (n : ℕ) (r : Record) : Type 0 where
+    pub phase : p.phase ≡ Opened ends
     pub entry : Entry
-    pub least : Some entry ≡ first (lists.bag p.list)
-    pub number_is : entry.record ≡ number
-    pub parent_is : parent ≡ record_at (state_of k m lists p) number
-    pub of_use : useless (task_of k m lists p) (state_of k m lists p).bests parent ≡ false
-    pub elsewhere : parent.place ≡ p.ends.goal → ⊥
+    pub least : Some entry ≡ first (q.bag p.list)
+    pub number_is : entry.record ≡ n
+    pub record_is : r ≡ record_at (state_of p) n
+    pub of_use : useless (task_between p ends) (state_of p).bests r ≡ false
+    pub elsewhere : r.place ≢ ends.goal

@@ -5,7 +5,7 @@
 --   kids_of k m t e n r          the children of the record r with the number n
 --   Opens k m t e r              what opening up r needs
 --   Added task rs b es b' es'    the records rs are stored, and their entries wait
-use Rattle.std.specs.Prelude.{◌≡◌, ℕ, ◌+◌, ◌<◌, ◌≤◌, true, cond, List, ◌++◌, length, take, Some, None, Option, slice_set}
+use Rattle.std.specs.Prelude.{◌≡◌, ℕ, ◌<◌, true, cond, List, [], ◌∷◌, ◌++◌, length, Some, None, Option, ◌≢◌, slice_set}
 use Rattle.costs.specs.Kinds.{Kind}
 use Rattle.costs.specs.declared.entry.Entry.{Entry}
 use Rattle.plan.specs.declared.book.Book.{Book}
@@ -36,29 +36,22 @@ abbrev pub kids_of : Kind → Kind → Table → Ends → ℕ → Record → Lis
 kids_of k m t ends number r = children_from (aim_in k m t ends) (bests_with t r) number r 0 (passages_in t)
 
 pub record Opens (k m : Kind) (t : Table) (ends : Ends) (r : Record) : Type 0 where
-  pub places : length t.places ≡ 256
-  pub passages : length t.passages ≡ 1024
-  pub next : length t.next ≡ 1024
-  pub some_passages : t.passage_count ≤ 1024
   pub building : FairBuilding (building_in k m t)
   pub indexed : Indexed t
-  pub place : r.place < t.place_count
-  pub goal : ends.goal < t.place_count
-  pub elsewhere : r.place ≡ ends.goal → ⊥
+  pub place : r.place < length t.places.items
+  pub goal : ends.goal < length t.places.items
+  pub elsewhere : r.place ≢ ends.goal
   pub second : m.is_value r.second ≡ true
   pub joins : (n : ℕ) → n < length (passages_in t) → ChildJoins (aim_in k m t ends) r n
 
 -- one record more
 abbrev pub with_record : Book → Record → Book
-with_record b r = record { records = slice_set b.records b.used r; choices = b.choices; used = b.used + 1; shown = b.shown; opened = b.opened; dropped = b.dropped }
+with_record b r = record { records = record { items = b.records.items ++ r ∷ [] }; choices = b.choices; opened = b.opened; dropped = b.dropped }
 
 -- the children were stored in the book b, and their entries put to es, which gave b' and es'
 pub record Added (task : Task) (children : List Record) (b : Book) (es : List Entry) (b' : Book) (es' : List Entry) : Type 0 where
-  pub records : take b'.used b'.records ≡ take b.used b.records ++ children
-  pub used : b'.used ≡ b.used + length children
-  pub long : length b'.records ≡ length b.records
+  pub records : b'.records.items ≡ b.records.items ++ children
   pub choices : b'.choices ≡ b.choices
-  pub shown : b'.shown ≡ b.shown
   pub opened : b'.opened ≡ b.opened
   pub dropped : b'.dropped ≡ b.dropped
-  pub waiting : es' ≡ put_all task b.used children es
+  pub waiting : es' ≡ put_all task (length b.records.items) children es

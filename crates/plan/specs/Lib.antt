@@ -6,8 +6,11 @@ pub mod Legs
 pub mod Joins
 pub mod Promise
 pub mod Views
+pub mod Stages
 pub mod Requests
+pub mod ListedRequests
 pub mod Calls
 pub mod Children
+pub mod Parents
 pub mod Runs
 pub mod Worked

@@ -3,10 +3,11 @@
 --   requested q b         the task that the request q asks for in the building b
 --   Listed t q            the request q has as many forecasts of each cost as the table t has places
 --   agrees_along k f p v  the forecasts f of the kind k are consistent along the passage p, with the value v
+--   both_agree task n     both lists of forecasts of the task are consistent along its passage n
 --   Comparable k f p v    both ends of the passage p have a forecast, and its value v joins with the one behind it
---   Prepared t q n u      the table u is t, but its first n places have the forecasts of the request q and no best
---   begun_book s b        the book b with one record, at the place s, and no choice
-use Rattle.std.specs.Prelude.{◌≡◌, ℕ, ◌<◌, ◌≤◌, Bool, List, length, None, slice_index, slice_set}
+--   Prepared t q u        the table u is t, but its places have the forecasts of the request q and no best
+--   begun_book s          the book with one record, at the place s, and no choice
+use Rattle.std.specs.Prelude.{◌≡◌, ℕ, ◌<◌, Bool, ◌&&◌, List, [], ◌∷◌, length, None, slice_index}
 use Rattle.costs.specs.Kinds.{Kind}
 use Rattle.survey.specs.declared.passage.Passage.{Passage}
 use Rattle.plan.specs.declared.book.Book.{Book}
@@ -14,7 +15,7 @@ use Rattle.plan.specs.declared.place.Place.{Place}
 use Rattle.plan.specs.declared.request.Request.{Request}
 use Rattle.plan.specs.declared.state.Ends.{Ends}
 use Rattle.plan.specs.declared.table.Table.{Table}
-use Rattle.plan.specs.Ways.{Building}
+use Rattle.plan.specs.Ways.{Building, passage}
 use Rattle.plan.specs.Rules.{Task}
 use Rattle.plan.specs.Joins.{Joined}
 use Rattle.plan.specs.Openings.{consistent}
@@ -28,11 +29,16 @@ abbrev pub requested : Request → Building → Task
 requested q b = task_for q.ends q.leading.now q.second.now q.slots b
 
 pub record Listed (t : Table) (q : Request) : Type 0 where
-  pub leading : length q.leading.now ≡ t.place_count
-  pub second : length q.second.now ≡ t.place_count
+  pub leading : length q.leading.now ≡ length t.places.items
+  pub second : length q.second.now ≡ length t.places.items
 
 abbrev pub agrees_along : Kind → List ℕ → Passage → ℕ → Bool
 agrees_along k forecasts p value = consistent k (slice_index forecasts p.from) value (slice_index forecasts p.to)
+
+-- both lists of forecasts of the task are consistent along its passage n
+abbrev pub both_agree : Task → ℕ → Bool
+both_agree task n =
+    agrees_along task.building.leading task.leading (passage task.building n) (passage task.building n).leading && agrees_along task.building.second task.second (passage task.building n) (passage task.building n).second
 
 pub record Comparable (k : Kind) (forecasts : List ℕ) (p : Passage) (value : ℕ) : Type 0 where
   pub from : p.from < length forecasts
@@ -43,21 +49,15 @@ pub record Comparable (k : Kind) (forecasts : List ℕ) (p : Passage) (value : �
 abbrev pub prepared_place : Table → Request → ℕ → Place
 prepared_place t q s = record { first = (place_at t s).first; best = None; leading = slice_index q.leading.now s; second = slice_index q.second.now s }
 
-pub record Prepared (t : Table) (q : Request) (n : ℕ) (u : Table) : Type 0 where
-  pub room : length u.places ≡ length t.places
+pub record Prepared (t : Table) (q : Request) (u : Table) : Type 0 where
   pub passages : u.passages ≡ t.passages
-  pub next : u.next ≡ t.next
-  pub place_count : u.place_count ≡ t.place_count
-  pub passage_count : u.passage_count ≡ t.passage_count
-  pub done : (s : ℕ) → s < n → place_at u s ≡ prepared_place t q s
-  pub others : (s : ℕ) → n ≤ s → place_at u s ≡ place_at t s
+  pub places : length u.places.items ≡ length t.places.items
+  pub each : (s : ℕ) → s < length t.places.items → place_at u s ≡ prepared_place t q s
 
-abbrev pub begun_book : ℕ → Book → Book
-begun_book start b = record {
-  records = slice_set b.records 0 (record { place = start; leading = 0; second = 0; parent = None; passage = 0 });
-  choices = b.choices;
-  used = 1;
-  shown = 0;
+abbrev pub begun_book : ℕ → Book
+begun_book start = record {
+  records = record { items = record { place = start; leading = 0; second = 0; parent = None; passage = 0 } ∷ [] };
+  choices = record { items = [] };
   opened = 0;
   dropped = 0;
 }

@@ -1,8 +1,9 @@
 // The questions that an opening asks of a request.
-ghost use Rattle.std.specs.Prelude.{◌≡◌, ◌<◌, ◌≤◌, ◌&&◌, ◌||◌, length, ◌==◌, slice_index};
+ghost use Rattle.std.specs.Prelude.{◌≡◌, ◌<◌, ◌&&◌, ◌||◌, length, ◌==◌, slice_index};
 ghost use Rattle.costs.specs.Kinds.{Kind};
 ghost use Rattle.survey.specs.Questions.{decided, each, told};
-ghost use Rattle.plan.specs.Requests.{Comparable, Listed, agrees_along, requested};
+ghost use Rattle.plan.specs.ListedRequests.{task_asked};
+ghost use Rattle.plan.specs.Requests.{Comparable, agrees_along, both_agree, requested};
 ghost use Rattle.plan.specs.Faults.{plan_refusal};
 ghost use Rattle.plan.specs.Openings.{FairBuilding, Passed, consistent_questions, end_questions, fits, forecast_questions, goal_questions, leading_questions, task_questions};
 ghost use Rattle.plan.specs.Views.{building_in};
@@ -10,133 +11,119 @@ ghost use Rattle.plan.specs.Ways.{Building};
 
 use crate::fault::PlanFault;
 use crate::join::joined;
+use crate::listed::ListedRequest;
 use crate::load::fits_kind;
+use crate::numbers::check_below;
 use crate::request::Request;
 use crate::table::Table;
 use costs::kind::CostKind;
 use survey::passage::Passage;
 
+pub(crate) fn check_task<A: CostKind, B: CostKind>(
+    table: &Table,
+    request: &Request,
+) -> Result<(), PlanFault>
+    requires { FairBuilding (building_in A.kind B.kind table.now) }
+    ensures { told plan_refusal result ≡ decided (task_questions (requested request.now (building_in A.kind B.kind table.now))) tt }
+{
+    check_ends(table, request)?;
+    let listed = ListedRequest {
+        table,
+        request: *request,
+    };
+    listed.check_forecasts::<A, B>()?;
+    listed.check_goal()?;
+    listed.check_leading::<A>()?;
+    listed.check_consistent::<A, B>()
+}
+
 fn check_ends(table: &Table, request: &Request) -> Result<(), PlanFault>
     ensures { (k m : Kind) → told plan_refusal result ≡ decided (end_questions (requested request.now (building_in k m table.now))) tt }
 {
-    let places = table.place_count;
-    if request.ends.start >= places || request.ends.goal >= places {
+    let places = table.places.len();
+    if usize::from(request.ends.start) >= places || usize::from(request.ends.goal) >= places {
         return Err(PlanFault::Ends);
     }
     if request.slots == 0 {
         return Err(PlanFault::NoSlot);
     }
-    if request.leading.len() != usize::from(places) || request.second.len() != usize::from(places) {
+    if request.leading.len() != places || request.second.len() != places {
         return Err(PlanFault::Forecasts);
     }
     Ok(())
 }
 
-fn forecasts_fit<A: CostKind, B: CostKind>(request: &Request, place: u16) -> bool
-    requires leading { place < length request.now.leading.now }
-    requires second { place < length request.now.second.now }
-    ensures { result ≡ (fits A.CostKind.kind (slice_index request.now.leading.now place) A.CostKind.kind.forecast_ceiling && fits B.CostKind.kind (slice_index request.now.second.now place) B.CostKind.kind.forecast_ceiling) }
-{
-    let at = usize::from(place);
-    fits_kind::<A>(request.leading[at], A::forecast_ceiling())
-        && fits_kind::<B>(request.second[at], B::forecast_ceiling())
-}
+impl ListedRequest<'_, '_, '_> {
+    fn check_forecasts<A: CostKind, B: CostKind>(&self) -> Result<(), PlanFault>
+        ensures { told plan_refusal result ≡ decided (each (length self.now.table.now.places.items) (forecast_questions (task_asked A.kind B.kind self.now))) tt }
+    {
+        let places = self.table.place_count();
+        let fits = |place| self.forecasts_fit::<A, B>(place);
+        check_below(places, fits).map_err(|place| PlanFault::Forecast { place })
+    }
 
-fn check_forecasts<A: CostKind, B: CostKind>(
-    table: &Table,
-    request: &Request,
-) -> Result<(), PlanFault>
-    requires { Listed table.now request.now }
-    ensures { told plan_refusal result ≡ decided (each table.now.place_count (forecast_questions (requested request.now (building_in A.CostKind.kind B.CostKind.kind table.now)))) tt }
-{
-    for place in 0..table.place_count {
-        if !forecasts_fit::<A, B>(request, place) {
-            return Err(PlanFault::Forecast { place });
+    fn forecasts_fit<A: CostKind, B: CostKind>(&self, place: u16) -> bool
+        requires { place < length self.now.table.now.places.items }
+        ensures { result ≡ (fits A.kind (slice_index self.now.request.leading.now place) A.kind.forecast_ceiling && fits B.kind (slice_index self.now.request.second.now place) B.kind.forecast_ceiling) }
+    {
+        let at = usize::from(place);
+        fits_kind::<A>(self.request.leading[at], A::forecast_ceiling())
+            && fits_kind::<B>(self.request.second[at], B::forecast_ceiling())
+    }
+
+    fn check_goal(&self) -> Result<(), PlanFault>
+        ensures { (b : Building) → told plan_refusal result ≡ decided (goal_questions (requested self.now.request b)) tt }
+    {
+        let goal = usize::from(self.request.ends.goal);
+        if self.request.leading[goal] != 0 || self.request.second[goal] != 0 {
+            return Err(PlanFault::AtGoal);
         }
+        Ok(())
     }
-    Ok(())
-}
 
-fn check_goal(request: &Request) -> Result<(), PlanFault>
-    requires leading { request.now.ends.goal < length request.now.leading.now }
-    requires second { request.now.ends.goal < length request.now.second.now }
-    ensures { (b : Building) → told plan_refusal result ≡ decided (goal_questions (requested request.now b)) tt }
-{
-    let goal = usize::from(request.ends.goal);
-    if request.leading[goal] != 0 || request.second[goal] != 0 {
-        return Err(PlanFault::AtGoal);
+    fn check_leading<A: CostKind>(&self) -> Result<(), PlanFault>
+        ensures { (m : Kind) → told plan_refusal result ≡ decided (each (length self.now.table.now.places.items) (leading_questions (task_asked A.kind m self.now))) tt }
+    {
+        let places = self.table.place_count();
+        let allowed = |place| self.leading_allowed::<A>(place);
+        check_below(places, allowed).map_err(|place| PlanFault::Leading { place })
     }
-    Ok(())
-}
 
-// Forecasts of a leading cost that does not cancel would hide which of two totals is less.
-fn leading_allowed<A: CostKind>(request: &Request, place: u16) -> bool
-    requires { place < length request.now.leading.now }
-    ensures { result ≡ (A.CostKind.kind.cancels || slice_index request.now.leading.now place == 0) }
-{
-    A::cancels() || request.leading[usize::from(place)] == 0
-}
-
-fn check_leading<A: CostKind>(table: &Table, request: &Request) -> Result<(), PlanFault>
-    requires { Listed table.now request.now }
-    ensures { (m : Kind) → told plan_refusal result ≡ decided (each table.now.place_count (leading_questions (requested request.now (building_in A.CostKind.kind m table.now)))) tt }
-{
-    for place in 0..table.place_count {
-        if !leading_allowed::<A>(request, place) {
-            return Err(PlanFault::Leading { place });
-        }
+    // Forecasts of a leading cost that does not cancel would hide which of two totals is less.
+    fn leading_allowed<A: CostKind>(&self, place: u16) -> bool
+        requires { place < length self.now.table.now.places.items }
+        ensures { result ≡ (A.kind.cancels || slice_index self.now.request.leading.now place == 0) }
+    {
+        A::cancels() || self.request.leading[usize::from(place)] == 0
     }
-    Ok(())
+
+    fn check_consistent<A: CostKind, B: CostKind>(&self) -> Result<(), PlanFault>
+        requires building { FairBuilding (building_in A.kind B.kind self.now.table.now) }
+        requires fits { Passed (each (length self.now.table.now.places.items) (forecast_questions (task_asked A.kind B.kind self.now))) }
+        ensures { told plan_refusal result ≡ decided (each (length self.now.table.now.passages.items) (consistent_questions (task_asked A.kind B.kind self.now))) tt }
+    {
+        let passages = self.table.passage_count();
+        let consistent = |passage| self.both_consistent::<A, B>(passage);
+        check_below(passages, consistent).map_err(|passage| PlanFault::Inconsistent { passage })
+    }
+
+    fn both_consistent<A: CostKind, B: CostKind>(&self, number: u16) -> bool
+        requires inside { number < length self.now.table.now.passages.items }
+        requires building { FairBuilding (building_in A.kind B.kind self.now.table.now) }
+        requires fits { Passed (each (length self.now.table.now.places.items) (forecast_questions (task_asked A.kind B.kind self.now))) }
+        ensures { result ≡ both_agree (task_asked A.kind B.kind self.now) number }
+    {
+        let passage = self.table.link(number).passage;
+        is_consistent::<A>(self.request.leading, passage, passage.leading)
+            && is_consistent::<B>(self.request.second, passage, passage.second)
+    }
 }
 
 fn is_consistent<K: CostKind>(forecasts: &[u32], passage: Passage, value: u32) -> bool
-    requires { Comparable K.CostKind.kind forecasts.now passage value }
-    ensures { result ≡ agrees_along K.CostKind.kind forecasts.now passage value }
+    requires { Comparable K.kind forecasts.now passage value }
+    ensures { result ≡ agrees_along K.kind forecasts.now passage value }
 {
     let from = usize::from(passage.from);
     let to = usize::from(passage.to);
     forecasts[from] <= joined::<K>(value, forecasts[to])
-}
-
-fn both_consistent<A: CostKind, B: CostKind>(request: &Request, passage: Passage) -> bool
-    requires leading { Comparable A.CostKind.kind request.now.leading.now passage passage.leading }
-    requires second { Comparable B.CostKind.kind request.now.second.now passage passage.second }
-    ensures { result ≡ (agrees_along A.CostKind.kind request.now.leading.now passage passage.leading && agrees_along B.CostKind.kind request.now.second.now passage passage.second) }
-{
-    is_consistent::<A>(request.leading, passage, passage.leading)
-        && is_consistent::<B>(request.second, passage, passage.second)
-}
-
-fn check_consistent<A: CostKind, B: CostKind>(
-    table: &Table,
-    request: &Request,
-) -> Result<(), PlanFault>
-    requires room { table.now.passage_count ≤ length table.now.passages }
-    requires building { FairBuilding (building_in A.CostKind.kind B.CostKind.kind table.now) }
-    requires listed { Listed table.now request.now }
-    requires fits { Passed (each table.now.place_count (forecast_questions (requested request.now (building_in A.CostKind.kind B.CostKind.kind table.now)))) }
-    ensures { told plan_refusal result ≡ decided (each table.now.passage_count (consistent_questions (requested request.now (building_in A.CostKind.kind B.CostKind.kind table.now)))) tt }
-{
-    for number in 0..table.passage_count {
-        let passage = table.passages[usize::from(number)];
-        if !both_consistent::<A, B>(request, passage) {
-            return Err(PlanFault::Inconsistent { passage: number });
-        }
-    }
-    Ok(())
-}
-
-pub(crate) fn check_task<A: CostKind, B: CostKind>(
-    table: &Table,
-    request: &Request,
-) -> Result<(), PlanFault>
-    requires room { table.now.passage_count ≤ length table.now.passages }
-    requires building { FairBuilding (building_in A.CostKind.kind B.CostKind.kind table.now) }
-    ensures { told plan_refusal result ≡ decided (task_questions (requested request.now (building_in A.CostKind.kind B.CostKind.kind table.now))) tt }
-{
-    check_ends(table, request)?;
-    check_forecasts::<A, B>(table, request)?;
-    check_goal(request)?;
-    check_leading::<A>(table, request)?;
-    check_consistent::<A, B>(table, request)
 }

@@ -1,6 +1,6 @@
 // The counts of a search.
 
-#[derive(Clone, Copy, Debug, PartialEq, Eq)]
+#[derive(Clone, Copy, Debug, Default, PartialEq, Eq)]
 pub struct Counts {
     // Records used.
     pub records: u32,

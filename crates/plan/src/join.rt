@@ -8,8 +8,5 @@ pub(crate) fn joined<K: CostKind>(first: u32, second: u32) -> u32
     requires { Joined K.CostKind.kind first second }
     ensures { result ≡ K.CostKind.kind.joined first second }
 {
-    match K::join(first, second) {
-        Some(join) => join,
-        None => unreachable(),
-    }
+    K::join(first, second).unwrap()
 }

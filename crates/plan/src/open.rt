@@ -1,16 +1,15 @@
 // Opening: the search for the choices between two places begins.
-ghost use Rattle.std.specs.Prelude.{◌≡◌, ◌<◌, ◌≤◌, length};
+ghost use Rattle.std.specs.Prelude.{◌≡◌};
 ghost use Rattle.plan.specs.Calls.{Opening};
-ghost use Rattle.plan.specs.Requests.{Listed, Prepared, begun_book, requested};
-ghost use Rattle.plan.specs.Openings.{Fair};
+ghost use Rattle.plan.specs.Requests.{Listed, Prepared, requested};
+ghost use Rattle.plan.specs.Openings.{Passed, task_questions};
 ghost use Rattle.plan.specs.Rules.{begun};
-ghost use Rattle.plan.specs.Views.{Sound, building_in, opened, stage};
+ghost use Rattle.plan.specs.Stages.{stage};
+ghost use Rattle.plan.specs.Views.{building_in, opened};
 
-use crate::book::Book;
 use crate::check::check_task;
 use crate::fault::PlanFault;
 use crate::join::joined;
-use crate::record::Record;
 use crate::request::Request;
 use crate::state::{Ends, Phase, Plan};
 use crate::table::Table;
@@ -27,9 +26,7 @@ impl<A: CostKind, B: CostKind, Q: OpenList> Plan<A, B, Q> {
         leading: &[u32],
         second: &[u32],
     ) -> Result<(), PlanFault>
-        requires sound { Sound A.CostKind.kind B.CostKind.kind Q.OpenList self.old }
-        ensures opening { Opening A.CostKind.kind B.CostKind.kind Q.OpenList self.old (record { start = start; goal = goal }) leading.now second.now result self.new }
-        ensures sound { Sound A.CostKind.kind B.CostKind.kind Q.OpenList self.new }
+        ensures { Opening self.old (record { start = start; goal = goal }) leading.now second.now result self.new }
     {
         if let Phase::Bare = self.phase {
             return Err(PlanFault::NotLoaded);
@@ -46,12 +43,11 @@ impl<A: CostKind, B: CostKind, Q: OpenList> Plan<A, B, Q> {
     }
 
     // Begins the search that was asked for.
+    #[tactic(auto, using(crate::proofs::Opening::first_joins, crate::proofs::Opening::fair_asked))]
     fn begin(&mut self, request: &Request)
-        requires sound { Sound A.CostKind.kind B.CostKind.kind Q.OpenList self.old }
-        requires fair { Fair (requested request.now (building_in A.CostKind.kind B.CostKind.kind self.old.table)) }
-        requires slots { request.now.slots ≡ Q.OpenList.slots self.old.list }
-        ensures stage { stage A.CostKind.kind B.CostKind.kind Q.OpenList self.new ≡ opened (requested request.now (building_in A.CostKind.kind B.CostKind.kind self.old.table)) (begun (requested request.now (building_in A.CostKind.kind B.CostKind.kind self.old.table))) }
-        ensures sound { Sound A.CostKind.kind B.CostKind.kind Q.OpenList self.new }
+        requires asked { Passed (task_questions (requested request.now (building_in A.kind B.kind self.old.table))) }
+        requires slots { request.now.slots ≡ Q.slots self.old.list }
+        ensures { stage self.new ≡ opened (requested request.now (building_in A.kind B.kind self.old.table)) (begun (requested request.now (building_in A.kind B.kind self.old.table))) }
     {
         let at = usize::from(request.ends.start);
         let entry = Entry {
@@ -59,44 +55,26 @@ impl<A: CostKind, B: CostKind, Q: OpenList> Plan<A, B, Q> {
             second: joined::<B>(0, request.second[at]),
             record: 0,
         };
-        prepare(&mut self.table, request);
-        begin_book(&mut self.book, request.ends.start);
+        self.table.prepare(request);
+        self.book.begin(request.ends.start);
         self.list.clear();
         let _ = self.list.put(entry);
-        self.ends = request.ends;
-        self.phase = Phase::Opened;
+        self.phase = Phase::Opened(request.ends);
     }
 }
 
-// Writes the forecasts, and clears the bests.
-fn prepare(table: &mut Table, request: &Request)
-    requires room { table.old.place_count ≤ length table.old.places }
-    requires listed { Listed table.old request.now }
-    ensures { Prepared table.old request.now table.old.place_count table.new }
-{
-    for number in 0..table.place_count {
-        let at = usize::from(number);
-        let place = &mut table.places[at];
-        place.best = None;
-        place.leading = request.leading[at];
-        place.second = request.second[at];
+impl Table {
+    // Writes the forecasts, and clears the bests.
+    fn prepare(&mut self, request: &Request)
+        requires { Listed self.old request.now }
+        ensures { Prepared self.old request.now self.new }
+    {
+        // By number: over a zip with the forecasts the proof doesn't close, since it learns only how many
+        // places were lent, and not what was written to them.
+        for (at, place) in self.places.iter_mut().enumerate() {
+            place.best = None;
+            place.leading = request.leading[at];
+            place.second = request.second[at];
+        }
     }
-}
-
-// Leaves the first record alone, and no choice.
-fn begin_book(book: &mut Book, start: u16)
-    requires { 0 < length book.old.records }
-    ensures { book.new ≡ begun_book start book.old }
-{
-    book.records[0] = Record {
-        place: start,
-        leading: 0,
-        second: 0,
-        parent: None,
-        passage: 0,
-    };
-    book.used = 1;
-    book.shown = 0;
-    book.opened = 0;
-    book.dropped = 0;
 }

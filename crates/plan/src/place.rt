@@ -1,6 +1,6 @@
 // A place of the plan's table.
 
-#[derive(Clone, Copy)]
+#[derive(Clone, Copy, Default)]
 pub struct Place {
     // The lowest passage that leaves it.
     pub(crate) first: Option<u16>,

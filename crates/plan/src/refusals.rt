@@ -1,26 +1,26 @@
-// The number and the spot of each fault.
+// The number and the spot of each fault, as they are printed.
 ghost use Rattle.std.specs.Prelude.{◌≡◌};
 ghost use Rattle.plan.specs.Faults.{build_refusal, plan_refusal};
 
 use crate::fault::{BuildFault, PlanFault};
 use survey::refusal::Refusal;
 
-impl BuildFault {
-    pub fn refusal(&self) -> Refusal
-        ensures { result ≡ build_refusal self.now }
-    {
-        match *self {
+impl From<BuildFault> for Refusal {
+    ghost from_gives = { λ f r. r ≡ build_refusal f };
+
+    fn from(fault: BuildFault) -> Refusal {
+        match fault {
             BuildFault::Letters => refusal(9, 0),
             BuildFault::Values { passage } => refusal(10, u32::from(passage)),
         }
     }
 }
 
-impl PlanFault {
-    pub fn refusal(&self) -> Refusal
-        ensures { result ≡ plan_refusal self.now }
-    {
-        match *self {
+impl From<PlanFault> for Refusal {
+    ghost from_gives = { λ f r. r ≡ plan_refusal f };
+
+    fn from(fault: PlanFault) -> Refusal {
+        match fault {
             PlanFault::NotLoaded => refusal(11, 0),
             PlanFault::Ends => refusal(12, 0),
             PlanFault::NoSlot => refusal(13, 0),

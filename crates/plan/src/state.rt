@@ -1,27 +1,38 @@
 // A plan: a building in two kinds of cost, and a search in it.
+ghost use Rattle.std.proofs.Props.{props};
+ghost use Rattle.plan.specs.Openings.{FairBuilding};
+ghost use Rattle.plan.specs.Views.{FirstFrom-prop, Indexed, Searching, building_in, state_in, task_in};
+
 use crate::book::Book;
 use crate::table::Table;
+use costs::kind::CostKind;
+use costs::open_list::OpenList;
 
 #[derive(Clone, Copy, PartialEq, Eq)]
 pub enum Phase {
     Bare,
     Loaded,
-    Opened,
+    // A search between these ends.
+    Opened(Ends),
 }
 
-#[derive(Clone, Copy)]
+#[derive(Clone, Copy, PartialEq, Eq)]
 pub struct Ends {
     pub(crate) start: u16,
     pub(crate) goal: u16,
 }
 
+// What is loaded is a building that passed the questions of loading, its passages are found from their places, and an opened
+// search is one that steps of the rules lead to.
 #[derive(Drop)]
-pub struct Plan<A, B, Q> {
+pub struct Plan<A: CostKind, B: CostKind, Q: OpenList> {
     pub(crate) leading: A,
     pub(crate) second: B,
     pub(crate) list: Q,
     pub(crate) phase: Phase,
-    pub(crate) ends: Ends,
     pub(crate) table: Table,
     pub(crate) book: Book,
+    ghost building: { FairBuilding (building_in A.kind B.kind table) },
+    ghost indexed: { Indexed table } by { Prim.hlevel (props, FirstFrom-prop) },
+    ghost searching: { Searching phase (λ ends. task_in A.kind B.kind table ends (Q.slots list)) (state_in table book (Q.bag list)) } by { Prim.hlevel (props, FirstFrom-prop) },
 }

@@ -1,67 +1,64 @@
 // One step of the search.
+ghost use Rattle.std.specs.Prelude.{◌≡◌};
 ghost use Rattle.plan.specs.Calls.{Step, ToOpen};
-ghost use Rattle.plan.specs.Views.{Sound};
 
 use crate::answer::StepAnswer;
-use crate::children::{add_children, count_children};
 use crate::fault::PlanFault;
+use crate::parent::Parent;
 use crate::record::Record;
-use crate::state::{Phase, Plan};
+use crate::state::{Ends, Phase, Plan};
 use costs::kind::CostKind;
 use costs::open_list::OpenList;
+use std::marker::PhantomData;
 
 impl<A: CostKind, B: CostKind, Q: OpenList> Plan<A, B, Q> {
     pub fn step(&mut self) -> Result<StepAnswer, PlanFault>
-        requires sound { Sound A.CostKind.kind B.CostKind.kind Q.OpenList self.old }
-        ensures step { Step A.CostKind.kind B.CostKind.kind Q.OpenList self.old result self.new }
-        ensures sound { Sound A.CostKind.kind B.CostKind.kind Q.OpenList self.new }
+        ensures { Step self.old result self.new }
     {
-        let Phase::Opened = self.phase else {
+        let Phase::Opened(ends) = self.phase else {
             return Err(PlanFault::NotOpened);
         };
         let Some(entry) = self.list.look() else {
             return Err(PlanFault::Complete);
         };
-        let record = self.book.records[entry.record as usize];
-        let goal = self.ends.goal;
+        let goal = ends.goal;
+        let found = self.book.record(entry.record);
         if self
             .table
-            .blocks(record.place, record.second, goal, entry.second)
+            .blocks(found.place, found.second, goal, entry.second)
         {
             let _ = self.list.take();
             self.book.dropped += 1;
             return Ok(StepAnswer::Dropped);
         }
-        if record.place == goal {
+        if found.place == goal {
             let _ = self.list.take();
-            self.table.set_best(goal, record.second);
+            self.table.set_best(goal, found.second);
             self.book.choose(entry.record);
             return Ok(StepAnswer::Shown);
         }
-        self.open_up(entry.record, record)
+        self.open_up(ends, entry.record, found)
     }
 
     // The least entry is that of the record `number`, which is of use and not at the goal.
-    fn open_up(&mut self, number: u32, parent: Record) -> Result<StepAnswer, PlanFault>
-        requires sound { Sound A.CostKind.kind B.CostKind.kind Q.OpenList self.old }
-        requires looked { ToOpen A.CostKind.kind B.CostKind.kind Q.OpenList self.old number parent }
-        ensures step { Step A.CostKind.kind B.CostKind.kind Q.OpenList self.old result self.new }
-        ensures sound { Sound A.CostKind.kind B.CostKind.kind Q.OpenList self.new }
+    fn open_up(&mut self, ends: Ends, number: u32, found: Record) -> Result<StepAnswer, PlanFault>
+        requires { ToOpen self.old ends number found }
+        ensures { Step self.old result self.new }
     {
-        let children = count_children::<A, B>(&self.table, self.ends, number, parent);
-        if children as usize > self.list.slots() - self.book.used as usize {
+        let parent = Parent::<A, B> {
+            table: &self.table,
+            ends,
+            number,
+            found,
+            kinds: PhantomData,
+        };
+        let children = parent.count_children();
+        if children as usize > self.list.slots() - self.book.records.len() {
             return Err(PlanFault::NoRecord);
         }
         let _ = self.list.take();
-        add_children::<A, B, Q>(
-            &self.table,
-            self.ends,
-            number,
-            parent,
-            &mut self.book,
-            &mut self.list,
-        );
-        self.table.set_best(parent.place, parent.second);
+        parent.add_children(&mut self.book, &mut self.list);
+        self.table.set_best(found.place, found.second);
         self.book.opened += 1;
         Ok(StepAnswer::OpenedUp(children))
     }

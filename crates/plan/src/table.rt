@@ -1,14 +1,19 @@
 // The table of a plan: places and passages of the building, and where to find the passages that leave a place.
 use crate::place::Place;
+use arrayvec::ArrayVec;
 use survey::passage::Passage;
 
-// Only the first `place_count` places and the first `passage_count` passages count.
-#[derive(Drop)]
+// A plan's tables have a fixed memory, so that no call fails for want of it once the plan is made.
+#[derive(Default, Drop)]
 pub struct Table {
-    pub(crate) places: [Place; 256],
-    pub(crate) passages: [Passage; 1024],
-    // The lowest passage behind each one that leaves the same place.
-    pub(crate) next: [Option<u16>; 1024],
-    pub(crate) place_count: u16,
-    pub(crate) passage_count: u16,
+    pub(crate) places: ArrayVec<Place, 256>,
+    pub(crate) passages: ArrayVec<Link, 1024>,
+}
+
+// A passage, and the lowest one behind it that leaves the same place. They are linked by their numbers, since a list for each
+// place would have to grow.
+#[derive(Clone, Copy, Default)]
+pub struct Link {
+    pub(crate) passage: Passage,
+    pub(crate) next: Option<u16>,
 }

@@ -4,6 +4,7 @@ ghost use Rattle.plan.specs.Promise.{FrontierTheorem, JoinTheorem, SearchTheorem
 ghost use Rattle.plan.specs.Worked.{WorkedHotel, worked_task};
 
 // A survey that is loaded, and a task that is opened, meet the conditions of the theorems below.
+#[tactic(auto, using(crate::proofs::Fairness::asked_fair))]
 pub fn asked_is_fair()
     ensures { AskedFair }
 {}
@@ -21,6 +22,7 @@ pub fn frontier_theorem()
 {}
 
 // After every number of steps, each join that the next one makes has a result.
+#[tactic(auto, using(crate::proofs::Trails::join_theorem_lem))]
 pub fn join_theorem()
     ensures { JoinTheorem }
 {}
@@ -31,6 +33,7 @@ pub fn worked_is_fair()
 {}
 
 // What the rules make of the worked hotel.
+#[tactic(auto, using(crate::proofs::Example::worked_hotel))]
 pub fn worked_hotel()
     ensures { WorkedHotel }
 {}

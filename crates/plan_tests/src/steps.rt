@@ -9,19 +9,19 @@ use plan::fault::{BuildFault, PlanFault};
 use plan::state::Plan;
 use std::process::Abort;
 use std::test::Fail;
-use survey::layout::Layout;
 use survey::view::Survey;
 
 // Desk, Hall, Stair and Room 4, with five passages, in seconds and smoke grades.
 const WORKED: &[u8; 103] =
     b"F\x01\x04\x00\x05\x00SGT\x00\x04\x00X\x00\x04\x00\x5c\x00\x05\x00a\x00\x06\x00\x00\x00\x01\x00\x0a\x00\x00\x00\x05\x00\x00\x00\x00\x00\x02\x00\x14\x00\x00\x00\x02\x00\x00\x00\x01\x00\x03\x00\x0a\x00\x00\x00\x01\x00\x00\x00\x02\x00\x03\x00\x14\x00\x00\x00\x03\x00\x00\x00\x01\x00\x02\x00\x05\x00\x00\x00\x00\x00\x00\x00DeskHallStairRoom 4";
 
+fn worked() -> Result<Survey<'static>, Fail> {
+    Survey::try_from(WORKED.as_slice()).map_err(|_| Fail::new("refused"))
+}
+
 // From Desk to Room 4, with forecasts of 0.
 fn answers<Q: OpenList + Drop>(rt: &impl Abort, list: Q, make: &str) -> Result<(), Fail> {
-    let Ok(layout) = Layout::check(WORKED) else {
-        return Err(Fail::new("refused"));
-    };
-    let survey = Survey::new(WORKED, layout);
+    let survey = worked()?;
     let mut plan = Plan::new(Sum, Worst, list);
     assert_eq!(rt;
         plan.open(0, 3, &[0; 4], &[0; 4]),
@@ -67,10 +67,7 @@ fn worked_hotel(rt: HostRuntime) -> Result<(), Fail> {
 // With a leading kind that the survey's letters do not go with, and with two slots.
 #[test]
 fn refusals(rt: HostRuntime) -> Result<(), Fail> {
-    let Ok(layout) = Layout::check(WORKED) else {
-        return Err(Fail::new("refused"));
-    };
-    let survey = Survey::new(WORKED, layout);
+    let survey = worked()?;
     let mut turned = Plan::new(Worst, Sum, HeapList::new(rt.alloc(), 2)?);
     assert_eq!(rt; turned.load(&survey), Err(BuildFault::Letters));
     let mut small = Plan::new(Sum, Worst, HeapList::new(rt.alloc(), 2)?);

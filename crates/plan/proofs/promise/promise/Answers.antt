@@ -3,18 +3,13 @@ use Rattle.plan.proofs.promise.promise.Goals as goal
 
 pub returns : goal.returns
 returns g c =
-    let k = g.A.CostKind.kind in
-    let m = g.B.CostKind.kind in
-    let ps = g.P.OpenList in
-    let qs = g.Q.OpenList in
     record {
       kept = λ b ends leading second slots p q es begun run.
-          kept_run (asked_task k m ps b ends leading second slots p begun) (begun_fair k m ps b ends leading second slots p begun) k m ps p q es (begun_where k m ps b ends leading second slots p begun) run
-          (few_slots k m ps b ends leading second slots p begun (λ l. (g.met.P.OpenList.sound l).limit));
+          kept_run (asked_task b ends leading second slots p begun) (begun_fair b ends leading second slots p begun) p q es (begun_where b ends leading second slots p begun) run (few_slots b ends leading second slots p begun (λ w. (g.met.P.OpenList.sound w).limit));
       asked = λ b ends leading second slots p q es begun run.
-          all_asked (asked_task k m ps b ends leading second slots p begun) (begun_fair k m ps b ends leading second slots p begun) k m ps p q es 0 (begun_where k m ps b ends leading second slots p begun) run;
+          all_asked (asked_task b ends leading second slots p begun) (begun_fair b ends leading second slots p begun) p q es 0 (begun_where b ends leading second slots p begun) run;
       same = λ b ends leading second slots p q p' q' es es' begun run begun' run' many.
-          let other = begun_where k m qs b ends leading second slots p' begun' in
-          same_run k m ps qs (asked_task k m ps b ends leading second slots p begun) (begun_fair k m ps b ends leading second slots p begun) p q p' q' es es' (begun_where k m ps b ends leading second slots p begun) run
-          (record { stands = other.stands; counts = other.counts }) run' (few_slots k m ps b ends leading second slots p begun (λ l. (g.met.P.OpenList.sound l).limit)) many;
+          let other = begun_where b ends leading second slots p' begun' in
+          same_run (asked_task b ends leading second slots p begun) (begun_fair b ends leading second slots p begun) p q p' q' es es' (begun_where b ends leading second slots p begun) run
+          (record { stands = other.stands; counts = other.counts }) run' (few_slots b ends leading second slots p begun (λ w. (g.met.P.OpenList.sound w).limit)) many;
     }

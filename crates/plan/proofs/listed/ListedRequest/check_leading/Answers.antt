@@ -1,0 +1,8 @@
+use Rattle.std.proofs.Common.{rules}
+use Rattle.plan.specs.Faults.{plan_refusal}
+use Rattle.plan.proofs.Rows.{row_told}
+use Rattle.plan.proofs.listed.ListedRequest.check_leading.Goals as goal
+
+pub returns : goal.returns
+returns g c m =
+    row_told plan_refusal 17 _ _ _ _ _ c.place_count-places.ensures c.check_below.ensures c.map_err.ensures.cases (search rules) (search rules) (search rules)
