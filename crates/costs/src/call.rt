@@ -1,5 +1,5 @@
-// The six calls of an open list, and their answers, as values: a closure is called on lists of one type,
-// and a `Call` on lists of two.
+// The six calls of an open list, and their answers, as values: a closure is called on lists of one type, and a `Call` on lists
+// of two, so that two closures for each call would be no plainer.
 use crate::entry::Entry;
 use crate::full::Full;
 

@@ -9,7 +9,8 @@ use crate::full::Full;
 // An open list that is made with more slots gets these.
 pub const MOST_SLOTS: usize = 2048;
 
-// That the slots stay is said of each call that changes a list: it is what the call leaves, and no fact of one list.
+// That the slots stay is said of each call that changes a list: it is what the call leaves and no fact of one list, so that no
+// type can hold it more plainly.
 pub trait OpenList {
     // The entries that wait, in rising order.
     ghost bag: { Self → List Entry };

@@ -7,7 +7,8 @@ ghost use Rattle.costs.specs.declared.entry.Entry.{Entry};
 use crate::entry::Entry;
 use std::alloc::{AllocError, Global};
 
-// That the room is no less is said of each call that changes a store: it is what the call leaves, and no fact of one store.
+// That the room is no less is said of each call that changes a store: it is what the call leaves and no fact of one store, so
+// that no type can hold it more plainly.
 pub trait Store: Drop {
     // The entries, in rising order.
     ghost bag: { Self → List Entry };

@@ -5,7 +5,8 @@ use crate::state::Ends;
 pub struct Request<'a, 'b> {
     pub(crate) ends: Ends,
     pub(crate) slots: usize,
-    // A forecast for each place, in each cost: two lists, as the caller has them, each of any length until it is asked.
+    // A forecast for each place, in each cost: two lists, as `Plan::open` takes them, each of any length until it is asked. One
+    // list of pairs would ask more of callers, and be no plainer.
     pub(crate) leading: &'a [u32],
     pub(crate) second: &'b [u32],
 }

@@ -10,8 +10,8 @@ pub struct Table {
     pub(crate) passages: ArrayVec<Link, 1024>,
 }
 
-// A passage, and the lowest one behind it that leaves the same place. They are linked by their numbers, since a list for each
-// place would have to grow.
+// A passage, and the lowest one behind it that leaves the same place. They are linked by their numbers: a list for each place
+// would have to grow, and the memory is fixed.
 #[derive(Clone, Copy, Default)]
 pub struct Link {
     pub(crate) passage: Passage,

@@ -64,7 +64,8 @@ fn check_header(bytes: &[u8]) -> Result<Layout, ReadFault>
 }
 
 // The bytes of a file whose header was accepted, with what it says: the tables end within the file. A `Survey` has the same
-// parts, and more is known of it; it holds no `Tables`, so that its calls read their parts at one step.
+// parts, and more is known of it. One made of a `Tables` would be no plainer: its calls, and the definitions that name its bytes
+// and layout, would read them by `tables`.
 #[derive(Clone, Copy)]
 struct Tables<'a> {
     bytes: &'a [u8],

@@ -6,7 +6,7 @@ use std::alloc::AllocError;
 use survey::decimal::Decimal;
 
 // A part of a text. Parts are not written by `write!`: std says nothing of an error of `write!`, nor of the room that it
-// leaves, and a job promises that memory is wanting only where its text has no room.
+// leaves, so that a job could not promise what it does: that memory is wanting only where its text has no room.
 #[derive(Clone, Copy)]
 pub enum Part<'a> {
     Text(&'a [u8]),

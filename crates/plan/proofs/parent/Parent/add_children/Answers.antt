@@ -6,6 +6,7 @@ use Rattle.plan.proofs.parent.Parent.add_children.Goals.{in-Some-child_by, in_de
 pub loop-at-init : goal.loop-at-init
 loop-at-init g c = (adding_none c.args.self.now _ _ _ c.place-at.ensures, refl)
 
+-- found with `used_left` named, but not with half the limits (`rt check --margin`)
 pub add_to-requires-clause-room : goal.add_to-requires-clause-room
 add_to-requires-clause-room g c =
     let adding = rw c.in-Some.is at c.loop-at.invariant.0 in

@@ -3,6 +3,7 @@ use Rattle.plan.proofs.Kids.{counting_none, count_small, count_useful, count_use
 use Rattle.plan.proofs.parent.Parent.count_children.Goals as goal
 use Rattle.plan.proofs.parent.Parent.count_children.Goals.{then-is_some, else-is_some}
 
+-- found with `counting_none` named, but not with half the limits (`rt check --margin`)
 pub loop-at-init : goal.loop-at-init
 loop-at-init g c = counting_none c.args.self.now _ c.place-at.ensures
 
