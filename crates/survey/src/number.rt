@@ -1,12 +1,12 @@
 // Numbers in a file, their low byte first.
-ghost use Rattle.std.specs.Prelude.{◌≡◌, ◌+◌, ◌≤◌, length, take, drop};
+ghost use Rattle.std.specs.Prelude.{◌≡◌, ◌+◌, ◌≤◌, length};
 ghost use Rattle.survey.specs.File.{two, four};
 
 pub(crate) fn two_at(bytes: &[u8], at: usize) -> u16
     requires { at + 2 ≤ length bytes.now }
     ensures { result ≡ two bytes.now at }
 {
-    u16::from_le_bytes(bytes_at(bytes, at))
+    u16::from_le_bytes([bytes[at], bytes[at + 1]])
 }
 
 // Two numbers, one behind the other.
@@ -22,13 +22,5 @@ pub(crate) fn four_at(bytes: &[u8], at: usize) -> u32
     requires { at + 4 ≤ length bytes.now }
     ensures { result ≡ four bytes.now at }
 {
-    u32::from_le_bytes(bytes_at(bytes, at))
-}
-
-// The N bytes from `at`.
-fn bytes_at<const N: usize>(bytes: &[u8], at: usize) -> [u8; N]
-    requires { at + N ≤ length bytes.now }
-    ensures { result ≡ take N (drop at bytes.now) }
-{
-    *bytes[at..].first_chunk().unwrap()
+    u32::from_le_bytes([bytes[at], bytes[at + 1], bytes[at + 2], bytes[at + 3]])
 }
