@@ -23,7 +23,7 @@ use Rattle.plan.specs.Ways.{Building, no_passage, passage}
 use Rattle.plan.specs.Rules.{Task, entry_for, first_record, begun}
 use Rattle.plan.specs.Joins.{Joined}
 use Rattle.plan.specs.Openings.{end_questions, forecast_questions, goal_questions, leading_questions, consistent_questions, agree_questions, list_questions, task_questions, lead_forecast, second_forecast, Passed, Fits, FairBuilding, Fair}
-use Rattle.plan.specs.Views.{opened, no_link, place_at, link_at, each_place, passages_in, building_in, task_in, state_in, FirstFrom, Indexed, Reached, Searching}
+use Rattle.plan.specs.Views.{opened, no_link, place_at, link_at, each_place, passages_in, building_in, task_in, state_in, FirstFrom, Indexed, Reached, Roomy, Searching}
 use Rattle.plan.specs.Requests.{requested, Listed, Comparable, prepared_place, Prepared, begun_book}
 use Rattle.plan.proofs.Fairness.{each_passed, fits_is, asked_fair}
 use Rattle.plan.proofs.Tables.{each_at, many_passages, link_is}
@@ -204,6 +204,7 @@ module _ (k m : Kind) (t : Table) (q : Request) (building : FairBuilding (buildi
     pub fair : FairBuilding (building_in k m u)
     pub indexed : Indexed u
     pub searching : Searching (Opened q.ends) (λ ends. task_in k m u ends n) (state_in u c ws)
+    pub roomy : Roomy c
     pub stage : opened (task_in k m u q.ends n) (state_in u c ws) ≡ opened (requested q (building_in k m t)) (begun (requested q (building_in k m t)))
 
   pub begins : Indexed t → (u : Table) (c : Book) (i a b n n' : ℕ) (es ws : List Entry) → Prepared t q u → c ≡ begun_book q.ends.start → i ≡ q.ends.start → a ≡ k.joined 0 (get_or q.leading.now i 0) → b ≡ m.joined 0 (get_or q.second.now i 0) →
@@ -214,5 +215,6 @@ module _ (k m : Kind) (t : Table) (q : Request) (building : FairBuilding (buildi
         fair = subst FairBuilding (sym (building_kept t q u prepared k m)) building;
         indexed = indexed_kept t q u prepared indexed;
         searching = searching_begun u c prepared is n' ws (kept ∙ same) wait;
+        roomy = subst Roomy (sym is) (omega arith, omega arith);
         stage = stage_begun u c prepared is n' ws (kept ∙ same) wait;
       }

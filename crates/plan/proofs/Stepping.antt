@@ -27,7 +27,7 @@ use Rattle.plan.specs.Rules.{Task, State, Answer, dropped, shown, opened as open
 use Rattle.plan.specs.Joins.{ChildJoins, StepJoins}
 use Rattle.plan.specs.Openings.{Fair, FairBuilding}
 use Rattle.plan.specs.Stages.{building_held, task_between, state_of, stage}
-use Rattle.plan.specs.Views.{FirstFrom-prop, opened, no_place, place_at, each_place, with_best, passages_in, FirstFrom, Indexed, Reached, Searching, building_in, with_choice, task_in, state_in, stage_at}
+use Rattle.plan.specs.Views.{FirstFrom-prop, opened, no_place, place_at, each_place, with_best, passages_in, FirstFrom, Indexed, Reached, Roomy, Searching, building_in, with_choice, task_in, state_in, stage_at}
 use Rattle.plan.specs.Calls.{told_answer, step_answer, step_stage, Step, ToOpen}
 use Rattle.plan.specs.Children.{aim_in, bests_with, kids_of, Opens, Added}
 use Rattle.plan.proofs.Search.{top}
@@ -188,14 +188,17 @@ building_prop b = hlevel props
 indexed_prop : (t : Table) → IsProp (Indexed t)
 indexed_prop t = hlevel (props, FirstFrom-prop)
 
+roomy_prop : (c : Book) → IsProp (Roomy c)
+roomy_prop c = hlevel props
+
 searching_prop : (x : Phase) (task : Ends → Task) (s : State) → IsProp (Searching x task s)
 searching_prop x task s = hlevel props
 
 module _ {A B Q : Type 0} {a : kinds.Ghosts A} {b : kinds.Ghosts B} {l : lists.Ghosts Q} (p : Plan A B Q a b l) where
   -- a plan is its parts: of each fact that its type keeps there is only one proof
-  pub same_plan : (x : FairBuilding (building_held p)) (y : Indexed p.table) (z : Searching p.phase (task_between p) (state_of p)) →
-      record { leading = p.leading; second = p.second; list = p.list; phase = p.phase; table = p.table; book = p.book; building = x; indexed = y; searching = z } ≡ p
-  same_plan x y z = λ i. record {
+  pub same_plan : (x : FairBuilding (building_held p)) (y : Indexed p.table) (z : Searching p.phase (task_between p) (state_of p)) (o : Roomy p.book) →
+      record { leading = p.leading; second = p.second; list = p.list; phase = p.phase; table = p.table; book = p.book; building = x; indexed = y; searching = z; roomy = o } ≡ p
+  same_plan x y z o = λ i. record {
     leading = p.leading;
     second = p.second;
     list = p.list;
@@ -205,6 +208,7 @@ module _ {A B Q : Type 0} {a : kinds.Ghosts A} {b : kinds.Ghosts B} {l : lists.G
     building = building_prop (building_held p) x p.building i;
     indexed = indexed_prop p.table y p.indexed i;
     searching = searching_prop p.phase (task_between p) (state_of p) z p.searching i;
+    roomy = roomy_prop p.book o p.roomy i;
   }
 
   -- an opened plan
@@ -240,19 +244,21 @@ module _ {A B Q : Type 0} {a : kinds.Ghosts A} {b : kinds.Ghosts B} {l : lists.G
       pub building : FairBuilding (building_in a.kind b.kind t)
       pub indexed : Indexed t
       pub searching : Searching p.phase (λ e. task_in a.kind b.kind t e (l.slots w)) (state_in t c (l.bag w))
-      pub step : (x : FairBuilding (building_in a.kind b.kind t)) (y : Indexed t) (z : Searching p.phase (λ e. task_in a.kind b.kind t e (l.slots w)) (state_in t c (l.bag w))) →
-          Step p (Ok did) (record { leading = p.leading; second = p.second; list = w; phase = p.phase; table = t; book = c; building = x; indexed = y; searching = z })
+      pub roomy : Roomy c
+      pub step : (x : FairBuilding (building_in a.kind b.kind t)) (y : Indexed t) (z : Searching p.phase (λ e. task_in a.kind b.kind t e (l.slots w)) (state_in t c (l.bag w))) (o : Roomy c) →
+          Step p (Ok did) (record { leading = p.leading; second = p.second; list = w; phase = p.phase; table = t; book = c; building = x; indexed = y; searching = z; roomy = o })
 
     onward : (x : Answer) (did : StepAnswer) (s : State) (t : Table) (c : Book) (w : Q) → Ok did ≡ told_answer x → stepped task state ≡ record { answer = x; next = s } → accepted s ≡ suc (accepted state) →
-        task_in a.kind b.kind t ends (l.slots w) ≡ task → state_in t c (l.bag w) ≡ s → Indexed t → Onward did t c w
-    onward x did s t c w told_by is one task-same state-is index = record {
+        task_in a.kind b.kind t ends (l.slots w) ≡ task → state_in t c (l.bag w) ≡ s → Indexed t → Roomy c → Onward did t c w
+    onward x did s t c w told_by is one task-same state-is index room = record {
       building = subst FairBuilding (ap (λ (y : Task). y.building) (sym task-same)) p.building;
       indexed = index;
       searching = λ e opened_at.
           let same : e ≡ ends = cc in
           subst (λ (y : Ends). Reached (task_in a.kind b.kind t y (l.slots w)) (state_in t c (l.bag w))) (sym same)
           (subst₂ Reached (sym task-same) (sym state-is) (reached_next task state fair reached x s is one));
-      step = λ building index searching. record {
+      roomy = room;
+      step = λ building index searching room. record {
         answer = told_by ∙ answer_by _ is;
         next = ap (λ (y : Phase). stage_at y (building_in a.kind b.kind t) (λ e. task_in a.kind b.kind t e (l.slots w)) (state_in t c (l.bag w))) phase ∙ (λ i. opened (task-same i) ((state-is ∙ ap (λ (y : Stepped). y.next) (sym is)) i)) ∙ ap step_stage (sym stage_is);
         refused = tt;
@@ -284,17 +290,18 @@ module _ {A B Q : Type 0} {a : kinds.Ghosts A} {b : kinds.Ghosts B} {l : lists.G
         pub drops : (at_most (place_at p.table r.place).best r.second || at_most (place_at p.table ends.goal).best e.second) ≡ true →
             Onward Dropped p.table (record { records = p.book.records; choices = p.book.choices; opened = p.book.opened; dropped = p.book.dropped + 1 }) w
         drops blocked = onward dropped Dropped _ p.table _ w refl (dropped_by task state e (rest (l.bag p.list)) waits (useless_seen r is ∙ blocked)) (omega arith)
-            (ap (task_in a.kind b.kind p.table ends) slots) (drop_next a.kind b.kind p.table p.book (l.bag p.list) (l.bag w) taken) p.indexed
+            (ap (task_in a.kind b.kind p.table ends) slots) (drop_next a.kind b.kind p.table p.book (l.bag p.list) (l.bag w) taken) p.indexed p.roomy
 
         pub shows : (at_most (place_at p.table r.place).best r.second || at_most (place_at p.table ends.goal).best e.second) ≡ false → r.place ≡ ends.goal →
-            (t : Table) → t ≡ with_best p.table ends.goal r.second → (c : Book) → c ≡ with_choice p.book e.record → Onward Shown t c w
-        shows of_use at_goal t t-is c c-is =
+            (t : Table) → t ≡ with_best p.table ends.goal r.second → (c : Book) → c ≡ with_choice p.book e.record → l.slots p.list ≤ 2048 → Onward Shown t c w
+        shows of_use at_goal t t-is c c-is limit =
             let there : (seen state e).place ≡ ends.goal = ap (λ (x : Record). x.place) (sym is) ∙ at_goal in
             subst₂ (λ (x : Table) (y : Book). Onward Shown x y w) (sym t-is) (sym c-is)
             (onward shown Shown _ _ _ w refl (shown_by task state e (rest (l.bag p.list)) waits (useless_seen r is ∙ of_use) there) (omega arith)
             (task_with p.table ends.goal r.second fair.goal_place a.kind b.kind ends (l.slots w) ∙ ap (task_in a.kind b.kind p.table ends) slots)
             (show_next a.kind b.kind p.table p.book (l.bag p.list) (l.bag w) taken (seen state e) ends.goal r.second e.record fair.goal_place there (ap (λ (x : Record). x.second) is))
-            (indexed_with p.table ends.goal r.second fair.goal_place p.indexed))
+            (indexed_with p.table ends.goal r.second fair.goal_place p.indexed)
+            (p.roomy.0, omega (arith, below_slots, limit, length-append p.book.choices.items (e.record ∷ []))))
 
   -- the record r with the number n is opened up
   module _ (ends : Ends) (n : ℕ) (r : Record) (looked : ToOpen p ends n r) where
@@ -352,9 +359,9 @@ module _ {A B Q : Type 0} {a : kinds.Ghosts A} {b : kinds.Ghosts B} {l : lists.G
     pub opened_few : p.book.opened < l.slots p.list
     opened_few = omega (arith, below_slots ends looked.phase e looked.least)
 
-    pub wants : l.slots p.list - length p.book.records.items < length born → (x : FairBuilding (building_held p)) (y : Indexed p.table) (z : Searching p.phase (task_between p) (state_of p)) →
-        Step p (Err NoRecord) (record { leading = p.leading; second = p.second; list = p.list; phase = p.phase; table = p.table; book = p.book; building = x; indexed = y; searching = z })
-    wants wanting x y z = subst (Step p (Err NoRecord)) (sym (same_plan x y z)) (stays ends looked.phase 21 NoRecord refl
+    pub wants : l.slots p.list - length p.book.records.items < length born → (x : FairBuilding (building_held p)) (y : Indexed p.table) (z : Searching p.phase (task_between p) (state_of p)) (o : Roomy p.book) →
+        Step p (Err NoRecord) (record { leading = p.leading; second = p.second; list = p.list; phase = p.phase; table = p.table; book = p.book; building = x; indexed = y; searching = z; roomy = o })
+    wants wanting x y z o = subst (Step p (Err NoRecord)) (sym (same_plan x y z o)) (stays ends looked.phase 21 NoRecord refl
         (wanting_by the_task (state_of p) e (rest (l.bag p.list)) (waits ends looked.phase e looked.least) of_use_seen elsewhere_seen (omega (arith, ap length born_are))))
 
     module _ (count : ℕ) (counts : count ≡ length born) (enough : length born ≤ l.slots p.list - length p.book.records.items) (w : Q) (taken : l.bag w ≡ rest (l.bag p.list))
@@ -364,9 +371,10 @@ module _ {A B Q : Type 0} {a : kinds.Ghosts A} {b : kinds.Ghosts B} {l : lists.G
           opened_by the_task (state_of p) e (rest (l.bag p.list)) (waits ends looked.phase e looked.least) of_use_seen elsewhere_seen (omega (arith, ap length born_are, enough)) ∙
           (λ i. record { answer = opened_up ((sym (counts ∙ ap length born_are)) i); next = (after_open the_task (state_of p) (rest (l.bag p.list)) (sym seen_at i) (sym born_are i)).next })
 
-      pub opens_up : (t : Table) → t ≡ with_best p.table r.place r.second → Onward ends looked.phase (OpenedUp count) t (record { records = c.records; choices = c.choices; opened = c.opened + 1; dropped = c.dropped }) v
-      opens_up t t-is = subst (λ (x : Table). Onward ends looked.phase (OpenedUp count) x (record { records = c.records; choices = c.choices; opened = c.opened + 1; dropped = c.dropped }) v) (sym t-is)
+      pub opens_up : (t : Table) → t ≡ with_best p.table r.place r.second → l.slots p.list ≤ 2048 → Onward ends looked.phase (OpenedUp count) t (record { records = c.records; choices = c.choices; opened = c.opened + 1; dropped = c.dropped }) v
+      opens_up t t-is limit = subst (λ (x : Table). Onward ends looked.phase (OpenedUp count) x (record { records = c.records; choices = c.choices; opened = c.opened + 1; dropped = c.dropped }) v) (sym t-is)
           (onward ends looked.phase (opened_up count) (OpenedUp count) _ _ _ v refl step_is (omega arith)
           (task_with p.table r.place r.second opens.place a.kind b.kind ends (l.slots v) ∙ ap (task_in a.kind b.kind p.table ends) slots)
           (open_next a.kind b.kind p.table p.book (l.bag p.list) (l.bag w) taken ends (l.slots p.list) n r opens.place c (l.bag v) added)
-          (indexed_with p.table r.place r.second opens.place p.indexed))
+          (indexed_with p.table r.place r.second opens.place p.indexed)
+          (omega (arith, ap length added.records, length-append p.book.records.items born, enough, used_slots, limit), omega (arith, ap (λ v. length v.items) added.choices, p.roomy.1)))

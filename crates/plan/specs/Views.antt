@@ -6,6 +6,7 @@
 --   Copied bs t          the table t holds the places of the survey bs without a link, a best or a forecast, and its passages
 --   Linked t u           the table u is t with its passages linked
 --   Filled bs t          the table t holds what the survey bs says, linked
+--   Roomy b              the book b has at most 2,048 records, and at most as many choices
 --   Reached task s       the state s is one that steps of the rules lead to
 --   Searching x f s      if the phase x is an opened search between some ends, its state is s, and f makes its task
 use Rattle.std.specs.Prelude.{◌≡◌, ℕ, suc, ◌<◌, ◌≤◌, List, [], ◌∷◌, ◌++◌, map, length, get_or, replicate, None, Some, Option, ◌≢◌, slice_index_or}
@@ -58,6 +59,9 @@ with_best t s g = record {
   places = with_item t.places s (record { first = (place_at t s).first; best = Some g; leading = (place_at t s).leading; second = (place_at t s).second });
   passages = t.passages;
 }
+
+abbrev pub Roomy : Book → Type 0
+Roomy b = (length b.records.items ≤ 2048) × (length b.choices.items ≤ 2048)
 
 abbrev pub record_in : Book → ℕ → Record
 record_in b n = slice_index_or b.records.items n no_record

@@ -4,14 +4,14 @@ ghost use Rattle.plan.specs.Children.{with_record};
 ghost use Rattle.plan.specs.Requests.{begun_book};
 ghost use Rattle.plan.specs.Views.{record_in, with_choice};
 
+use crate::fixed_vec::FixedVec;
 use crate::record::Record;
-use arrayvec::ArrayVec;
 
 #[derive(Default, Drop)]
 pub struct Book {
-    pub(crate) records: ArrayVec<Record, 2048>,
+    pub(crate) records: FixedVec<Record, 2048>,
     // The record of each choice.
-    pub(crate) choices: ArrayVec<u32, 2048>,
+    pub(crate) choices: FixedVec<u32, 2048>,
     pub(crate) opened: u32,
     pub(crate) dropped: u32,
 }
@@ -35,7 +35,7 @@ impl Book {
         requires { number < length self.now.records.items }
         ensures { result ≡ record_in self.now number }
     {
-        self.records[number as usize]
+        self.records.as_slice()[number as usize]
     }
 
     // The number that the next record gets.

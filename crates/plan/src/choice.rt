@@ -14,7 +14,7 @@ impl<A: CostKind, B: CostKind, Q: OpenList> Plan<A, B, Q> {
         let Phase::Opened(_) = self.phase else {
             return Err(PlanFault::NotOpened);
         };
-        let Some(chosen) = self.book.choices.get(number as usize) else {
+        let Some(chosen) = self.book.choices.as_slice().get(number as usize) else {
             return Err(PlanFault::NoChoice);
         };
         let found = self.book.record(*chosen);

@@ -50,7 +50,11 @@ impl Table {
         requires place { place_from self.old number < length self.old.places.items }
         ensures { self.new ≡ with_first self.old number }
     {
-        let from = usize::from(self.link(number).passage.from);
-        self.passages[usize::from(number)].next = self.places[from].first.replace(number);
+        let link = self.link(number);
+        let next = self.places[usize::from(link.passage.from)]
+            .first
+            .replace(number);
+        self.passages
+            .set(usize::from(number), Link { next, ..link });
     }
 }

@@ -11,6 +11,7 @@ mod counts;
 pub mod fault;
 mod fill;
 mod finish;
+mod fixed_vec;
 mod join;
 pub mod leg;
 mod listed;

@@ -30,6 +30,6 @@ impl Table {
         requires { passage < length self.now.passages.items }
         ensures { result ≡ link_at self.now passage }
     {
-        self.passages[usize::from(passage)]
+        self.passages.as_slice()[usize::from(passage)]
     }
 }

@@ -1,7 +1,7 @@
 // A plan: a building in two kinds of cost, and a search in it.
 ghost use Rattle.std.proofs.Props.{props};
 ghost use Rattle.plan.specs.Openings.{FairBuilding};
-ghost use Rattle.plan.specs.Views.{FirstFrom-prop, Indexed, Searching, building_in, state_in, task_in};
+ghost use Rattle.plan.specs.Views.{FirstFrom-prop, Indexed, Roomy, Searching, building_in, state_in, task_in};
 
 use crate::book::Book;
 use crate::table::Table;
@@ -22,8 +22,8 @@ pub struct Ends {
     pub(crate) goal: u16,
 }
 
-// What is loaded is a building that passed the questions of loading, its passages are found from their places, and an opened
-// search is one that steps of the rules lead to.
+// What holds of each loaded building holds of what the table has, its passages are found from their places, an opened search is
+// one that steps of the rules lead to, and its records and choices are no more than a plan has memory for.
 #[derive(Drop)]
 pub struct Plan<A: CostKind, B: CostKind, Q: OpenList> {
     pub(crate) leading: A,
@@ -32,7 +32,8 @@ pub struct Plan<A: CostKind, B: CostKind, Q: OpenList> {
     pub(crate) phase: Phase,
     pub(crate) table: Table,
     pub(crate) book: Book,
-    ghost building: { FairBuilding (building_in A.kind B.kind table) },
-    ghost indexed: { Indexed table } by { Prim.hlevel (props, FirstFrom-prop) },
-    ghost searching: { Searching phase (λ ends. task_in A.kind B.kind table ends (Q.slots list)) (state_in table book (Q.bag list)) } by { Prim.hlevel (props, FirstFrom-prop) },
+    pub ghost building: { FairBuilding (building_in A.kind B.kind table) },
+    pub ghost indexed: { Indexed table } by { Prim.hlevel (props, FirstFrom-prop) },
+    pub ghost searching: { Searching phase (λ ends. task_in A.kind B.kind table ends (Q.slots list)) (state_in table book (Q.bag list)) } by { Prim.hlevel (props, FirstFrom-prop) },
+    pub ghost roomy: { Roomy book },
 }

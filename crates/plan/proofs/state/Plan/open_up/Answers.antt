@@ -9,7 +9,7 @@ pub overflow_sub-slots : goal.overflow_sub-slots
 overflow_sub-slots g c = omega (arith, used_slots c.args.self.now _ _ _ c.requires)
 
 pub returns-then-children-slots : goal.returns-then-children-slots
-returns-then-children-slots g c = wants c.args.self.now _ _ _ c.requires (omega arith) _ _ _
+returns-then-children-slots g c = wants c.args.self.now _ _ _ c.requires (omega arith) _ _ _ _
 
 pub add_children-requires-clause-slots : goal.add_children-requires-clause-slots
 add_children-requires-clause-slots g c =
@@ -20,8 +20,8 @@ overflow_add-self g c = omega (arith, opened_few c.args.self.now _ _ _ c.require
 
 pub invariant_of-self-2 : goal.invariant_of-self-2
 invariant_of-self-2 g c =
-    assumption (opens_up c.args.self.now _ _ _ c.requires _ c.count_children-children.ensures (omega arith) _ c.take.ensures.bag _ _ (c.add_children.ensures.slots ∙ c.take.ensures.slots) c.add_children.ensures.added _ c.set_best.ensures)
+    assumption (opens_up c.args.self.now _ _ _ c.requires _ c.count_children-children.ensures (omega arith) _ c.take.ensures.bag _ _ (c.add_children.ensures.slots ∙ c.take.ensures.slots) c.add_children.ensures.added _ c.set_best.ensures (g.met.Q.OpenList.sound c.args.self.now.list).limit)
 
 pub returns : goal.returns
 returns g c =
-    (opens_up c.args.self.now _ _ _ c.requires _ c.count_children-children.ensures (omega arith) _ c.take.ensures.bag _ _ (c.add_children.ensures.slots ∙ c.take.ensures.slots) c.add_children.ensures.added _ c.set_best.ensures).step _ _ _
+    (opens_up c.args.self.now _ _ _ c.requires _ c.count_children-children.ensures (omega arith) _ c.take.ensures.bag _ _ (c.add_children.ensures.slots ∙ c.take.ensures.slots) c.add_children.ensures.added _ c.set_best.ensures (g.met.Q.OpenList.sound c.args.self.now.list).limit).step _ _ _ _

@@ -20,7 +20,7 @@ invariant_of-self g c =
 
 pub returns-then-blocks : goal.returns-then-blocks
 returns-then-blocks g c =
-    (drops c.args.self.now _ c.in-Opened.is _ c.in-Some.ensures _ c.take.ensures.bag c.take.ensures.slots _ c.record-found.ensures (sym c.blocks-2.ensures ∙ c.if-blocks.true)).step _ _ _
+    (drops c.args.self.now _ c.in-Opened.is _ c.in-Some.ensures _ c.take.ensures.bag c.take.ensures.slots _ c.record-found.ensures (sym c.blocks-2.ensures ∙ c.if-blocks.true)).step _ _ _ _
 
 pub set_best-requires : goal.set_best-requires
 set_best-requires g c = (fair c.args.self.now _ c.in-Opened.is).goal_place
@@ -30,11 +30,11 @@ choose-requires g c = omega (arith, below_slots c.args.self.now _ c.in-Opened.is
 
 pub invariant_of-self-then-found-goal : goal.invariant_of-self-then-found-goal
 invariant_of-self-then-found-goal g c =
-    assumption (shows c.args.self.now _ c.in-Opened.is _ c.in-Some.ensures _ c.take-then-found-goal.ensures.bag c.take-then-found-goal.ensures.slots _ c.record-found.ensures (sym c.blocks-2.ensures ∙ c.if-blocks.false) c.if-found-goal.true _ c.set_best.ensures _ c.choose.ensures)
+    assumption (shows c.args.self.now _ c.in-Opened.is _ c.in-Some.ensures _ c.take-then-found-goal.ensures.bag c.take-then-found-goal.ensures.slots _ c.record-found.ensures (sym c.blocks-2.ensures ∙ c.if-blocks.false) c.if-found-goal.true _ c.set_best.ensures _ c.choose.ensures (g.met.Q.OpenList.sound c.args.self.now.list).limit)
 
 pub returns-then-found-goal : goal.returns-then-found-goal
 returns-then-found-goal g c =
-    (shows c.args.self.now _ c.in-Opened.is _ c.in-Some.ensures _ c.take-then-found-goal.ensures.bag c.take-then-found-goal.ensures.slots _ c.record-found.ensures (sym c.blocks-2.ensures ∙ c.if-blocks.false) c.if-found-goal.true _ c.set_best.ensures _ c.choose.ensures).step _ _ _
+    (shows c.args.self.now _ c.in-Opened.is _ c.in-Some.ensures _ c.take-then-found-goal.ensures.bag c.take-then-found-goal.ensures.slots _ c.record-found.ensures (sym c.blocks-2.ensures ∙ c.if-blocks.false) c.if-found-goal.true _ c.set_best.ensures _ c.choose.ensures (g.met.Q.OpenList.sound c.args.self.now.list).limit).step _ _ _ _
 
 pub open_up-requires : goal.open_up-requires
 open_up-requires g c = record {

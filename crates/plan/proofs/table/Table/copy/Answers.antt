@@ -10,5 +10,5 @@ loop-number-preserved c =
     let read : c.unwrap.result ≡ passage_in bs c.loop-number.number = grind arith in
     record {
       places = c.loop-number.invariant.places;
-      passages = pushed_more bs c.loop-number.self _ c.loop-number.invariant.passages _ _ read c.push-in-loop-number.ensures.items;
+      passages = pushed_more bs c.loop-number.self _ c.loop-number.invariant.passages _ _ read c.push-in-loop-number.ensures;
     }
