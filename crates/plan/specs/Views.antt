@@ -6,7 +6,7 @@
 --   Copied bs t          the table t holds the places of the survey bs without a link, a best or a forecast, and its passages
 --   Linked t u           the table u is t with its passages linked
 --   Filled bs t          the table t holds what the survey bs says, linked
---   Roomy b              the book b has at most 2,048 records, and at most as many choices
+--   Roomy b              the book b has at most 2,048 records, and at most 2,048 choices
 --   Reached task s       the state s is one that steps of the rules lead to
 --   Searching x f s      if the phase x is an opened search between some ends, its state is s, and f makes its task
 use Rattle.std.specs.Prelude.{◌≡◌, ℕ, suc, ◌<◌, ◌≤◌, List, [], ◌∷◌, ◌++◌, map, length, get_or, replicate, None, Some, Option, ◌≢◌, slice_index_or}

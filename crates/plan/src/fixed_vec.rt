@@ -73,7 +73,7 @@ impl<T: Copy + Default, const N: usize> FixedVec<T, N> {
     }
 }
 
-// Apart from `set`, whose bound is told of the list: here it is that of the array.
+// A function of its own, since where a cell is written the check wants it to be in the array, and `set` knows that it is in the list.
 fn write_at<T: Copy, const N: usize>(cells: &mut [T; N], at: usize, item: T)
     requires { at < N }
     ensures { cells.new ≡ slice_set cells.old at item }
